@@ -1,0 +1,46 @@
+-- `between` answers whole metres between two points: the root of the squared gaps, each gap at most 2,000,000, so that every number fits.
+use Prim.Native.Nat.{ℕ, _+_, _*_}
+use native.Mathlib.Omega.{arith}
+use mathlib.Core.Path.{_≡_, ap₂, _∙_}
+use borrow.Author.Needs.{needs}
+use Rattle.distance.specs.Metres.{metres, apart, metresBetween}
+use Rattle.distance.proofs.Largest.{square-bounded, metres-bound}
+use Rattle.distance.proofs.between.Statement.{statement}
+use Rattle.distance.proofs.between.Tie as tie
+
+by-gaps : (e n e′ n′ a b r : ℕ) → a ≡ apart e e′ → b ≡ apart n n′ → r ≡ metres (a * a + b * b) → r ≡ metresBetween e n e′ n′
+unfolding metresBetween
+by-gaps e n e′ n′ a b r east north s = s ∙ ap₂ (λ (x y : ℕ). metres (x * x + y * y)) east north
+
+mul-root : tie.Need-mul-root
+mul-root c = omega (arith, square-bounded (c .before .gap .result) (c .before .gap .ensures .1))
+
+mul-root-2 : tie.Need-mul-root-2
+mul-root-2 c = omega (arith, square-bounded (c .gap2 .result) (c .gap2 .ensures .1))
+
+add-root : tie.Need-add-root
+add-root c =
+    omega (arith, square-bounded (c .before .gap .result) (c .before .gap .ensures .1), square-bounded (c .gap2 .result) (c .gap2 .ensures .1))
+
+cast-result : tie.Need-cast-result
+cast-result c =
+    omega (arith, metres-bound (c .before .before .gap .result) (c .before .gap2 .result) (c .before .before .gap .ensures .1) (c .before .gap2 .ensures .1))
+
+returns : tie.Need-returns
+returns c = (
+  by-gaps _ _ _ _ _ _ _ (c .before .before .gap .ensures .0) (c .before .gap2 .ensures .0) (c .root .ensures),
+  omega (arith, metres-bound (c .before .before .gap .result) (c .before .gap2 .result) (c .before .before .gap .ensures .1) (c .before .gap2 .ensures .1)),
+)
+
+pub between-spec : {M : Type 1} → statement M
+between-spec =
+    tie.close
+    (tie.spec
+    (λ c κs. search needs)
+    (λ c κs. search needs)
+    mul-root
+    mul-root-2
+    add-root
+    (λ c κs. search needs)
+    cast-result
+    returns)

@@ -1,0 +1,44 @@
+// Whole metres between two points: the integer root, by falling estimates.
+ghost use mathlib.Core.Path.{_≡_};
+ghost use Prim.Native.Nat.{_≤_, _*_, _+_, _<_};
+ghost use Rattle.distance.specs.Metres.{metres, apart, metresBetween};
+
+// Whole metres of a squared distance in square centimetres. Each estimate is at least the root; the first that does not fall is the root.
+pub fn root(q: u64) -> u64
+    ensures { λ r. ⌜ r ≡ metres q ⌝ }
+{
+    let n = q / 10000;
+    if n == 0 {
+        return 0;
+    }
+    let mut x = n;
+    let m = loop {
+        let next = (x + n / x) / 2;
+        if x <= next {
+            break x;
+        }
+        x = next;
+    };
+    m
+}
+
+// How far two coordinates lie from each other.
+fn gap(a: u32, b: u32) -> u64
+    requires { ⌜ (a ≤ 2000000) × (b ≤ 2000000) ⌝ }
+    ensures { λ r. ⌜ (r ≡ apart a b) × (r ≤ 2000000) ⌝ }
+{
+    if a < b {
+        return (b - a) as u64;
+    }
+    (a - b) as u64
+}
+
+// Whole metres between two points, their coordinates in centimetres counted from -1,000,000.
+pub fn between(e: u32, n: u32, e2: u32, n2: u32) -> u32
+    requires { ⌜ (e ≤ 2000000) × (n ≤ 2000000) × (e2 ≤ 2000000) × (n2 ≤ 2000000) ⌝ }
+    ensures { λ r. ⌜ (r ≡ metresBetween e n e2 n2) × (r ≤ 28284) ⌝ }
+{
+    let east = gap(e, e2);
+    let north = gap(n, n2);
+    root(east * east + north * north) as u32
+}

@@ -1,0 +1,10 @@
+-- Weighted signed clauses, in document 01's order: signs, clauses, rows, costs, the encoding, the resolution rule, the rebuilt assignment.
+pub mod Sign
+pub mod Clause
+pub mod Row
+pub mod Entry
+pub mod Rule
+pub mod Resolve
+pub mod Rebuild
+pub mod Bound
+pub mod Theorems

@@ -1,0 +1,4 @@
+pub mod Reading
+pub mod Inverse
+pub mod Packing
+pub mod Coordinates

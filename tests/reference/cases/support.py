@@ -1,0 +1,60 @@
+"""What several test files share: fields, their costs by definition, and comparisons with the plain reading."""
+
+import unittest
+from itertools import product
+
+from reference import words
+from reference.tables import capacity, read_table
+
+from .plain import plain_answer, plain_rows, value_set
+
+COSTS = [0, 1, 1, 2, 3, 5, 9, 65_535]
+
+
+def filler_rows(count):
+    """So many rows of the second and third variable of three with sizes 4, 8 and 8, each with other signs."""
+    return " ".join(f"0,{1 + at // 254},{1 + at % 254}:1" for at in range(count))
+
+
+def random_field(rng):
+    """Sizes and entries of a field with at most 64 assignments."""
+    sizes = [rng.randint(1, 4) for _ in range(rng.randint(1, 3))]
+    entries = []
+    for _ in range(rng.randint(0, 8 * len(sizes))):
+        bound = [variable for variable in range(len(sizes)) if rng.random() < 0.6]
+        entries.append(([(variable, rng.randrange(sizes[variable])) for variable in bound], rng.choice(COSTS)))
+    return sizes, entries
+
+
+def cost_table(sizes, entries):
+    """What every assignment pays, straight from the definition."""
+    costs = {}
+    for assignment in product(*(range(size) for size in sizes)):
+        has = set(enumerate(assignment))
+        costs[assignment] = sum(cost for bindings, cost in entries if set(bindings) <= has)
+    return costs
+
+
+def plain_falsified(rows, assignment):
+    return sum(weight for signs, weight in rows
+               if not any(value in value_set(sign) for value, sign in zip(assignment, signs)))
+
+
+class Comparison(unittest.TestCase):
+    def conserved(self, table, costs):
+        """Every assignment falsifies what it pays; answers with the empty row's weight, which is no more."""
+        rows = read_table(table).rows
+        empty = sum(weight for signs, weight in rows if set(signs) == {0})
+        for assignment, cost in costs.items():
+            self.assertEqual(plain_falsified(rows, assignment), cost)
+            self.assertLessEqual(empty, cost)
+        return empty
+
+    def same_step(self, table, answer):
+        """The step call's answer is that of the plain reading."""
+        sizes, rows = read_table(table)
+        number, pair, after = plain_answer(sizes, rows, capacity(len(sizes), len(table)))
+        self.assertEqual(answer.number, number)
+        self.assertEqual(answer.outcome, "refused" if number else "stepped" if pair else "done")
+        self.assertEqual(answer.word, words.step(*pair) if pair and not number else 0)
+        self.assertEqual(plain_rows(read_table(answer.table).rows), after)

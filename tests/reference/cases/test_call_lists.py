@@ -1,0 +1,110 @@
+"""Step calls, runs and plan calls in any order on one table, and derivations of any permitted pairs."""
+
+import random
+from itertools import combinations
+
+from reference import check_call, encode, plan_call, run_call, step_call, words
+from reference.fields import instance, table_length
+from reference.tables import read_table
+
+from .plain import may_resolve, plain_rows
+from .support import Comparison, cost_table, random_field
+
+
+class CallLists(Comparison):
+    def test_random_lists(self):
+        rng = random.Random(3)
+        outcomes = [self.hold(rng, *random_field(rng)) for _ in range(150)]
+        self.assertGreater(outcomes.count("done"), 50)
+        self.assertGreater(outcomes.count("full"), 10)
+        self.assertGreater(outcomes.count("unfinished"), 10)
+
+    def hold(self, rng, sizes, entries):
+        """Up to fifteen random calls, then the end if it has come."""
+        source, costs = instance(sizes, entries), cost_table(sizes, entries)
+        table, derivation = self.tight_table(rng, source), []
+        bound = self.conserved(table, costs)
+        for _ in range(rng.randint(0, 15)):
+            table = self.one_call(rng, table, derivation)
+            bound = self.conserved(table, costs)
+        self.assertLessEqual(len(derivation), sum(size * size for size in sizes) * sum(costs.values()))
+        last = step_call(table)
+        if last.outcome != "done":
+            self.assertIn(last.number, (0, 12))
+            return "full" if last.number else "unfinished"
+        assignment = plan_call(table, [0] * len(sizes)).target
+        self.assertEqual((bound, costs[tuple(assignment)]), (min(costs.values()),) * 2)
+        self.assertEqual(check_call(source, derivation, assignment, bound, [6] * len(table)),
+                         (0, len(derivation), table))
+        return "done"
+
+    def tight_table(self, rng, source):
+        """The encoded table in a slice that has often no room for what the steps need."""
+        sizes, rows = read_table(encode(source, [5] * 500).table)
+        length = table_length(len(sizes), len(rows) + rng.choice([0, 0, 1, 60]), rng.randrange(5))
+        return encode(source, [5] * length).table
+
+    def one_call(self, rng, table, derivation):
+        """The table after one random call; its step words are put behind the derivation."""
+        call = rng.choice([self.step, self.run_steps, self.plan])
+        return call(rng, table, derivation)
+
+    def step(self, _, table, derivation):
+        answer = step_call(table)
+        self.assertIn(answer.number, (0, 12))
+        if answer.outcome == "stepped":
+            derivation.append(answer.word)
+        else:
+            self.assertEqual(answer.table, table)
+        return answer.table
+
+    def run_steps(self, rng, table, derivation):
+        limit, room = rng.randrange(4), rng.randrange(5)
+        answer = run_call(table, limit, [3] * room)
+        self.assertIn(answer.number, (0, 12))
+        self.assertEqual(answer.derivation[answer.steps:], [3] * (room - answer.steps))
+        derivation += answer.derivation[:answer.steps]
+        return answer.table
+
+    def plan(self, rng, table, _):
+        count, room = len(read_table(table).sizes), rng.randrange(5)
+        left = step_call(table).outcome != "done"
+        answer = plan_call(table, [9] * room)
+        self.assertEqual(answer.number, 10 if room < count else 13 if left else 0)
+        if answer.number:
+            self.assertEqual(answer.target, [9] * room)
+        return table
+
+
+def permitted_words(table):
+    """The step words of all permitted pairs, whatever bucket their rows are in."""
+    sizes, rows = read_table(table)
+    domains = [frozenset(range(size)) for size in sizes]
+    clauses = [clause for clause, _ in plain_rows(rows)]
+    return [words.step(variable, first, second)
+            for variable in range(len(sizes))
+            for first, second in combinations(range(len(rows)), 2)
+            if may_resolve(domains, variable, clauses[first], clauses[second])]
+
+
+class Derivations(Comparison):
+    def test_random_derivations(self):
+        rng = random.Random(4)
+        steps = sum(self.hold(rng, *random_field(rng)) for _ in range(80))
+        self.assertGreater(steps, 200)
+
+    def hold(self, rng, sizes, entries):
+        """Up to eight random permitted steps: the checker's table keeps every assignment's cost."""
+        source, costs = instance(sizes, entries), cost_table(sizes, entries)
+        derivation, table = [], encode(source, [5] * table_length(len(sizes), 300)).table
+        for count in range(8):
+            choice = permitted_words(table)
+            if not choice:
+                return count
+            derivation.append(rng.choice(choice))
+            # The assignment is too long, so the answer is 7 once all steps are replayed.
+            answer = check_call(source, derivation, [0] * 4, 0, [6] * len(table))
+            self.assertEqual((answer.number, answer.steps), (7, len(derivation)))
+            table = answer.table
+            self.conserved(table, costs)
+        return len(derivation)

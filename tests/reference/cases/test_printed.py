@@ -1,0 +1,142 @@
+"""What the program prints: the worked example, every other line, and its buffers."""
+
+import random
+import subprocess
+import sys
+import unittest
+from pathlib import Path
+
+from reference import Buffers, printed_plan, words
+from reference.fields import as_bytes, sheet
+
+# Document 01's worked example as little-endian words.
+EXAMPLE = bytes.fromhex("02000010" "01000020" "00000080" "00000090"
+                        "02000020" "2c010080" "90010090" "58020080" "20030090"
+                        "00010030" "09000040")
+HERE = (0, 0)
+# P2 with a constant cost of 5 in front of it.
+CONSTANT_FIRST = as_bytes(sheet([[HERE] * 3], [([], 5), ([(0, 0)], 2), ([(0, 1)], 1), ([(0, 2)], 4)]))
+# The checker's field, all legs 0 m: four rows, four after the first step, five after the second.
+GROWING = as_bytes(sheet([[HERE] * 2] * 3, [([(0, 0)], 2), ([(0, 1)], 1), ([(1, 0)], 2), ([(1, 1), (2, 0)], 1)]))
+
+
+class Printed(unittest.TestCase):
+    def prints(self, source, *lines, **buffers):
+        expected = "".join(line + "\n" for line in lines).encode()
+        self.assertEqual(printed_plan(source, Buffers(**buffers)), expected)
+
+    def test_worked_example(self):
+        self.assertEqual(printed_plan(EXAMPLE), b"PLAN\nCOST 10\nSTEPS 1\n0 0 0\n1 1 10\n")
+
+    def test_command(self):
+        ran = subprocess.run([sys.executable, "-B", "-m", "reference"], input=EXAMPLE, capture_output=True,
+                             cwd=Path(__file__).resolve().parent.parent, check=True)
+        self.assertEqual(ran.stdout, b"PLAN\nCOST 10\nSTEPS 1\n0 0 0\n1 1 10\n")
+
+    def test_default_buffers(self):
+        self.assertEqual(Buffers(), (16_000, 16_000, 16_000, 15_014, 16_000))
+
+    def test_metres_from_the_chosen_place(self):
+        # One place each, 3 m, then 4 m and 65,535 for a combination that cannot be avoided.
+        source = sheet([[(0, 0)], [(300, 0)], [(300, 499)]], [([(0, 0), (2, 0)], 65_535)])
+        self.prints(as_bytes(source), "PLAN", "COST 65542", "STEPS 0", "0 0 0", "1 0 3", "2 0 4")
+
+    def test_one_variable(self):
+        self.prints(as_bytes(sheet([[HERE, HERE]], [])), "PLAN", "COST 0", "STEPS 0", "0 0 0")
+
+    def test_paused_by_the_limit(self):
+        # After two steps the rows are empty:5 3:3 4:1 2:1.
+        self.prints(CONSTANT_FIRST, "PAUSED 2 BOUND 5", limit=2)
+        self.prints(CONSTANT_FIRST, "PAUSED 0 BOUND 5", limit=0)
+        self.prints(CONSTANT_FIRST, "PLAN", "COST 6", "STEPS 3", "0 1 0", limit=3)
+
+    def test_paused_by_the_step_buffer(self):
+        self.prints(CONSTANT_FIRST, "PAUSED 2 BOUND 5", steps=2)
+        self.prints(CONSTANT_FIRST, "PLAN", "COST 6", "STEPS 3", "0 1 0", steps=3)
+
+    def test_full(self):
+        self.prints(GROWING, "FULL 1 BOUND 1", table=29)
+        self.prints(GROWING, "PAUSED 1 BOUND 1", table=29, limit=1)
+        self.prints(GROWING, "PLAN", "COST 1", "STEPS 2", "0 1 0", "1 1 0", "2 1 0", table=30)
+
+    def test_encoding_refused(self):
+        self.prints(GROWING, "REFUSED 12", table=24)
+        self.prints(GROWING, "REFUSED 12", table=5)
+        self.prints(GROWING, "REFUSED 10", table=4)
+
+    def test_faults(self):
+        self.prints(b"", "REFUSED 1")
+        self.prints(as_bytes([words.head(13)]), "REFUSED 1")
+        self.prints(as_bytes([words.head(1)]), "REFUSED 2")
+        self.prints(EXAMPLE[:-4], "REFUSED 3")
+        self.prints(EXAMPLE + as_bytes([words.cost(65_536)]), "REFUSED 4")
+        # Two legs and the entry of the example are counted.
+        self.prints(EXAMPLE + as_bytes([words.cost(0)] * 4_094), "REFUSED 5")
+        self.prints(EXAMPLE + as_bytes([words.cost(0)] * 4_093), "PLAN", "COST 10", "STEPS 1", "0 0 0", "1 1 10")
+
+    def test_length_not_a_multiple_of_four(self):
+        for cut in [1, 2, 3]:
+            self.prints(EXAMPLE[:-cut], "REFUSED 1")
+            self.prints(EXAMPLE + bytes(cut), "REFUSED 1")
+            self.prints(bytes(64_000 - cut), "REFUSED 1")
+
+    def test_more_than_64000_bytes(self):
+        for more in [1, 2, 4, 5, 1_000]:
+            self.prints(bytes(64_000 + more), "REFUSED 10")
+        self.prints(bytes(64_000), "REFUSED 1")
+
+    def test_sheet_of_64000_bytes(self):
+        # Ten words of places, 3,997 entries of four words and one of two: 16,000; the instance has as many, since
+        # two legs take the room of six coordinates.
+        entries = [([(0, 0), (1, 0), (2, 0)], 1)] * 3_997 + [([(0, 0)], 1)]
+        source = as_bytes(sheet([[HERE]] * 3, entries))
+        self.assertEqual(len(source), 64_000)
+        self.prints(source, "PLAN", "COST 3998", "STEPS 0", "0 0 0", "1 0 0", "2 0 0")
+        self.prints(source, "REFUSED 10", instance=15_999)
+
+    def test_instance_longer_than_its_buffer(self):
+        # Four variables have eight coordinates and three legs of three words: 16,001 words from 16,000.
+        entries = [([(0, 0), (1, 0), (2, 0), (3, 0)], 1)] * 3_197 + [([(0, 0)], 1)]
+        source = as_bytes(sheet([[HERE]] * 4, entries))
+        self.assertEqual(len(source), 64_000)
+        self.prints(source, "REFUSED 10")
+        self.prints(source[:-8] + as_bytes([words.binding(0, 0), words.cost(65_536)]), "REFUSED 4")
+
+
+class Chains(unittest.TestCase):
+    """Fields in which only neighbours and single values cost: their least cost is found from one end to the other."""
+
+    @staticmethod
+    def metres(here, there):
+        square = (here[0] - there[0]) ** 2 + (here[1] - there[1]) ** 2
+        found = 0
+        while 10_000 * (found + 1) ** 2 <= square:
+            found += 1
+        return found
+
+    def least_cost(self, places, single):
+        reached = list(single[0])
+        for variable in range(1, len(places)):
+            reached = [single[variable][value]
+                       + min(cost + self.metres(before, place)
+                             for cost, before in zip(reached, places[variable - 1]))
+                       for value, place in enumerate(places[variable])]
+        return min(reached)
+
+    def hold(self, rng, variables, values):
+        places = [[(2_000 * variable + rng.randrange(1_000), rng.randrange(-3_000, 3_000)) for _ in range(values)]
+                  for variable in range(variables)]
+        single = [[rng.randrange(30) for _ in range(values)] for _ in range(variables)]
+        entries = [([(variable, value)], single[variable][value])
+                   for variable in range(variables) for value in range(values)]
+        lines = printed_plan(as_bytes(sheet(places, entries))).decode().split("\n")
+        self.assertEqual((lines[0], lines[1], lines[-1]), ("PLAN", f"COST {self.least_cost(places, single)}", ""))
+        chosen = [[int(part) for part in line.split(" ")] for line in lines[3:-1]]
+        self.assertEqual([line[0] for line in chosen], list(range(variables)))
+        paid = sum(single[variable][value] + metres for variable, value, metres in chosen)
+        self.assertEqual(lines[1], f"COST {paid}")
+
+    def test_chains(self):
+        rng = random.Random(20)
+        for variables, values in [(2, 3), (3, 3), (4, 4), (5, 3), (6, 4), (12, 2), (3, 8), (2, 8)]:
+            self.hold(rng, variables, values)

@@ -1,0 +1,35 @@
+"""Steps in valid tables that need not come from an instance, held against the plain reading."""
+
+import random
+
+from reference import step_call
+from reference.fields import table_length
+from reference.tables import Row, table_words
+
+from .support import Comparison
+
+
+def random_table(rng):
+    sizes = [rng.randint(2, 4) for _ in range(rng.randint(1, 4))]
+    signs = {tuple(rng.randrange((1 << size) - 1) for size in sizes) for _ in range(rng.randint(1, 6))}
+    weights = [268_435_455, 268_435_450, 3] if rng.random() < 0.2 else [1, 2, 3, 7]
+    rows = [Row(clause, rng.choice(weights)) for clause in sorted(signs)]
+    rng.shuffle(rows)
+    length = table_length(len(sizes), len(rows) + rng.choice([0, 1, 2, 30]), rng.randrange(5))
+    return table_words(sizes, rows, length)
+
+
+class RandomTables(Comparison):
+    def test_random_tables(self):
+        rng = random.Random(2)
+        numbers = {0: 0, 11: 0, 12: 0}
+        for _ in range(400):
+            table = random_table(rng)
+            for _ in range(4):
+                answer = step_call(table)
+                self.same_step(table, answer)
+                numbers[answer.number] += 1
+                if answer.outcome != "stepped":
+                    self.assertEqual(answer.table, table)
+                table = answer.table
+        self.assertTrue(all(count >= 20 for count in numbers.values()), numbers)

@@ -1,0 +1,55 @@
+"""Builders of instances, sheets and tables as words, from plain lists."""
+
+from . import words
+from .inputs import Entry, Instance, entry_words, instance_words
+from .limits import ROW_WORDS
+from .tables import Row, rows_start, table_words
+
+
+def instance(sizes, entries):
+    """Entries are (bindings, cost), bindings a list of (variable, value)."""
+    return instance_words(Instance(tuple(sizes), made_entries(entries)))
+
+
+def made_entries(entries):
+    return tuple(Entry(tuple(bindings), cost) for bindings, cost in entries)
+
+
+def sheet(places, entries):
+    """Places are, for each variable, a list of (easting, northing) in centimetres, one for each value."""
+    written = [words.head(len(places))]
+    for values in places:
+        written.append(words.size(len(values)))
+        for east, north in values:
+            written += [words.easting(east), words.northing(north)]
+    return written + entry_words(made_entries(entries))
+
+
+def rows(text, variables):
+    """Rows in document 01's notation, as `2,2:1 0,2:1` or `2:2 empty:1`."""
+    return [row(part, variables) for part in text.split()]
+
+
+def row(text, variables):
+    signs, weight = text.split(":")
+    if signs == "empty":
+        return Row((0,) * variables, int(weight))
+    return Row(tuple(int(sign) for sign in signs.split(",")), int(weight))
+
+
+def table(sizes, text, length):
+    """The slice of this length that holds a table of these rows, zero past them."""
+    written = table_words(sizes, rows(text, len(sizes)), length)
+    if len(written) != length:
+        raise ValueError("the rows do not fit into the slice")
+    return written
+
+
+def table_length(variables, row_total, spare=0):
+    """The length of a slice that has room for so many rows, with spare words behind them."""
+    return rows_start(variables) + ROW_WORDS * row_total + spare
+
+
+def as_bytes(sequence):
+    """Words as the little-endian bytes that the program reads."""
+    return b"".join(w.to_bytes(4, "little") for w in sequence)
