@@ -1,0 +1,4 @@
+pub mod Filling
+pub mod Excluding
+pub mod Turns
+pub mod Concluding

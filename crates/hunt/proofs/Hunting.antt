@@ -1,0 +1,78 @@
+-- The search taken up from a later place: rows that do not go with the first are passed over, and so are those tried before.
+use Prim.Native.Nat.{ℕ, suc, _+_, _<_, _≤_, max}
+use native.Mathlib.Omega.{arith}
+use mathlib.Core.Path.{_≡_, refl, sym, _∙_}
+use mathlib.Core.Bool.{Bool, true, false, false≢true}
+use mathlib.Core.List.{List}
+use mathlib.Core.Option.{none, some}
+use lib.ListN.{length, getD, drop, drop-of-length-le}
+use lib.Seq.{drop-cons}
+use Rattle.wcsp.specs.Clause.{bucket}
+use Rattle.wcsp.specs.Row.{Row}
+use Rattle.wcsp.specs.Rule.{permitted}
+use Rattle.wcsp.specs.Resolve.{noRow, candidate, partner, pairIn}
+use Rattle.wcsp.proofs.PairSearch.{signsAt, partner-here, partner-later, pairIn-here, pairIn-later}
+use Rattle.wcsp.proofs.PairFound.{partner-is-none}
+use Rattle.wcsp.proofs.NextPair.{candidate-goes, goes-candidate}
+use Rattle.wcsp.proofs.Cleared.{cleared-hunt}
+use Rattle.hunt.specs.Hunt.{Cleared}
+
+-- ---- the test for a candidate
+
+module _ (ds : List ℕ) (s : ℕ) (x y : List ℕ) where
+  not-goes : (candidate ds s x y ≡ true → ⊥) → candidate ds s x y ≡ false
+  not-goes n = go (candidate ds s x y) refl
+    where
+      go : (b : Bool) → candidate ds s x y ≡ b → b ≡ false
+      go true e = absurd (n e)
+      go false e = refl
+
+  pub other-first : (bucket x ≡ s → ⊥) → candidate ds s x y ≡ false
+  other-first n = not-goes (λ e. n (candidate-goes ds s x y e .firstIn))
+
+  pub other-second : (bucket y ≡ s → ⊥) → candidate ds s x y ≡ false
+  other-second n = not-goes (λ e. n (candidate-goes ds s x y e .secondIn))
+
+  pub in-bucket : bucket x ≡ s → bucket y ≡ s → (b : Bool) → b ≡ permitted ds s x y → candidate ds s x y ≡ b
+  in-bucket p q true e = goes-candidate ds s x y (record { firstIn = p; secondIn = q; may = sym e })
+  in-bucket p q false e = not-goes (λ g. false≢true (e ∙ candidate-goes ds s x y g .may))
+
+-- ---- the second row
+
+module _ (ds : List ℕ) (s : ℕ) (x : List ℕ) (rs : List Row) where
+  pub partner-at : (j : ℕ) → j < length rs → candidate ds s x (signsAt rs j) ≡ true → partner ds s x j (drop j rs) ≡ some j
+  partner-at j h e = rw (drop-cons rs j noRow h) (partner-here ds s x j (getD rs j noRow) (drop (suc j) rs) e)
+
+  pub partner-past : (j : ℕ) → j < length rs → candidate ds s x (signsAt rs j) ≡ false
+      → partner ds s x j (drop j rs) ≡ partner ds s x (suc j) (drop (suc j) rs)
+  partner-past j h e = rw (drop-cons rs j noRow h) (partner-later ds s x j (getD rs j noRow) (drop (suc j) rs) e)
+
+  pub partner-end : (j : ℕ) → length rs ≤ j → partner ds s x j (drop j rs) ≡ none
+  unfolding partner
+  partner-end j h = rw (drop-of-length-le rs h)
+
+  -- a row of another bucket has no second row
+  pub partner-other : (j : ℕ) → (bucket x ≡ s → ⊥) → partner ds s x j rs ≡ none
+  partner-other j n = partner-is-none ds s x j rs (λ k h. other-first ds s x (signsAt rs k) n)
+
+-- second rows tried before are passed over
+pub partner-cleared : (ds : List ℕ) (s i c k : ℕ) (rs : List Row) → Cleared ds s i c rs → k < i → k + 1 < c
+    → partner ds s (signsAt rs k) (suc k) (drop (suc k) rs) ≡ partner ds s (signsAt rs k) c (drop c rs)
+partner-cleared ds s i c k rs f h l =
+    let e : max c (suc k) ≡ c = omega arith in
+    rw e at (cleared-hunt {ds = ds} {s = s} {i = i} {c = c} {rs = rs} (record { clear = f .1 }) k h (omega arith) (f .0))
+
+-- ---- the first row
+
+module _ (ds : List ℕ) (s : ℕ) (rs : List Row) where
+  pub pairIn-at : (i j : ℕ) → i < length rs → partner ds s (signsAt rs i) (suc i) (drop (suc i) rs) ≡ some j
+      → pairIn ds s i (drop i rs) ≡ some (record { variable = s; first = i; second = j })
+  pairIn-at i j h e = rw (drop-cons rs i noRow h) (pairIn-here ds s i (getD rs i noRow) (drop (suc i) rs) j e)
+
+  pub pairIn-past : (i : ℕ) → i < length rs → partner ds s (signsAt rs i) (suc i) (drop (suc i) rs) ≡ none
+      → pairIn ds s i (drop i rs) ≡ pairIn ds s (suc i) (drop (suc i) rs)
+  pairIn-past i h e = rw (drop-cons rs i noRow h) (pairIn-later ds s i (getD rs i noRow) (drop (suc i) rs) e)
+
+  pub pairIn-end : (i : ℕ) → length rs ≤ i → pairIn ds s i (drop i rs) ≡ none
+  unfolding pairIn
+  pairIn-end i h = rw (drop-of-length-le rs h)

@@ -1,0 +1,29 @@
+-- The answers of a hunt, and what it may rely on: buckets that are settled, and pairs of rows that were tried before.
+use Prim.Native.Nat.{ℕ, _<_, _≤_}
+use mathlib.Core.Path.{_≡_}
+use mathlib.Core.Bool.{false}
+use mathlib.Core.List.{List}
+use mathlib.Core.Option.{Option, none, some}
+use lib.ListN.{length, getD}
+use Rattle.wcsp.specs.Row.{Row}
+use Rattle.wcsp.specs.Resolve.{Pair, noRow, candidate, pairIn}
+use Rattle.rows.specs.declared.Found.{Found}
+use Rattle.rows.specs.declared.Found.the-variants.{At, Missing}
+use Rattle.hunt.specs.declared.Hunted.{Hunted}
+use Rattle.hunt.specs.declared.Hunted.the-variants.{Next, Nothing}
+
+unfoldable pub foundOf : Option ℕ → Found
+foundOf none = Missing
+foundOf (some k) = At k
+
+unfoldable pub huntedOf : Option Pair → Hunted
+huntedOf none = Nothing
+huntedOf (some pr) = Next (pr .variable) (pr .first) (pr .second)
+
+-- no two rows of bucket s, the first below i and the second below c, are a candidate
+abbrev pub Cleared : List ℕ → ℕ → ℕ → ℕ → List Row → Type 0
+Cleared ds s i c rs = (c ≤ length rs) × ((k l : ℕ) → k < i → k < l → l < c → candidate ds s (getD rs k noRow .signs) (getD rs l noRow .signs) ≡ false)
+
+-- no bucket below s has a pair
+abbrev pub Settled : List ℕ → ℕ → List Row → Type 0
+Settled ds s rs = (v : ℕ) → v < s → pairIn ds v 0 rs ≡ none

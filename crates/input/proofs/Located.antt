@@ -1,0 +1,148 @@
+-- The stations of a sheet: reading one after another answers the sizes of all and where the entries start, and the fault of the whole comes apart into that of the stations and that of the entries.
+use Prim.Native.Nat.{ℕ, zero, suc, _+_, _-_, _*_, _%_, _≤_, _<_}
+use native.Mathlib.Omega.{arith}
+use mathlib.Core.Path.{_≡_, refl, sym, ap, ap₂, _∙_}
+use mathlib.Core.Bool.{Bool, true, false, _&&_, cond, false≢true}
+use mathlib.Core.List.{List, [], _∷_, _++_, map, append-nil}
+use lib.ListN.{length, getD, take, drop, set, replicate, length-drop}
+use lib.Seq.{append-snoc, drop-drop}
+use lib.Dec.{eqb}
+use borrow.Author.Tests.{eq-eqb, eqb-false, ne-eqb}
+use Rattle.words.specs.declared.Word.{Word}
+use Rattle.words.specs.Layout.{payloadOf}
+use Rattle.words.specs.Meaning.{wordOf}
+use Rattle.input.specs.declared.Got.{Got}
+use Rattle.input.specs.declared.Got.the-variants.{Number, Fault}
+use Rattle.input.specs.Instance.{sizeIn, entriesFault}
+use Rattle.input.specs.Sheet.{Point, isEasting, isNorthing, legCount, sheetStationsFault, pointsFrom, stationsFrom, behindStations}
+use Rattle.input.specs.Phases.{nextOf, isNext, numbered, gotBy, goodPositions, goodStations, stationsRead, refusedStations}
+use Rattle.input.proofs.Filling.{Filling, filling-start, filling-step, filling-end}
+use Rattle.input.proofs.Positions.{next-inside}
+use Rattle.input.proofs.Sizes.{Sized, sized, sized-of, sized-bounds, size-payload}
+
+-- ---- the positions of d values
+
+-- they stand within the words
+pub positions-inside : (d : ℕ) (ws : List ℕ) → goodPositions d ws ≡ true → 2 * d ≤ length ws
+unfolding goodPositions
+positions-inside zero ws e = omega arith
+positions-inside (suc d) ws e =
+    go (isNext isEasting (nextOf ws)) (isNext isNorthing (nextOf (drop 1 ws))) refl refl e (λ h. positions-inside d (drop 2 ws) h)
+  where
+    go : (a b : Bool) → isNext isEasting (nextOf ws) ≡ a → isNext isNorthing (nextOf (drop 1 ws)) ≡ b
+        → (a && b && goodPositions d (drop 2 ws)) ≡ true → (goodPositions d (drop 2 ws) ≡ true → 2 * d ≤ length (drop 2 ws)) → 2 * suc d ≤ length ws
+    go true true f g e ih = omega (arith, ih e, length-drop 2 ws, next-inside isNorthing (drop 1 ws) g, length-drop 1 ws)
+    go true false f g e ih = absurd (false≢true e)
+    go false b f g e ih = absurd (false≢true e)
+
+pub points-length : (d : ℕ) (ws : List ℕ) → length (pointsFrom d ws) ≡ d
+unfolding pointsFrom
+points-length zero ws = refl
+points-length (suc d) ws = ap suc (points-length d (drop 2 ws))
+
+-- ---- one station more
+
+module _ (k d : ℕ) where
+  pub good-more : (ws : List ℕ) → Sized ws d → goodPositions d (drop 1 ws) ≡ true → goodStations (suc k) ws ≡ goodStations k (drop (1 + 2 * d) ws)
+  unfolding goodStations
+  good-more (w ∷ ws) (sized h e) g =
+      let o : 1 + 2 * d ≡ suc (2 * d) = omega arith in
+      rw (ne-eqb (sizeIn (wordOf w)) 0 (omega arith), e, g, o)
+
+  pub good-broken : (ws : List ℕ) → Sized ws d → goodPositions d (drop 1 ws) ≡ false → goodStations (suc k) ws ≡ false
+  unfolding goodStations
+  good-broken (w ∷ ws) (sized h e) g = rw (ne-eqb (sizeIn (wordOf w)) 0 (omega arith), e, g)
+
+  pub sizes-more : (ws : List ℕ) → Sized ws d → map length (stationsFrom (suc k) ws) ≡ d ∷ map length (stationsFrom k (drop (1 + 2 * d) ws))
+  unfolding stationsFrom
+  sizes-more (w ∷ ws) (sized h e) = rw (size-payload w d e h .0, points-length d ws)
+
+  pub behind-more : (ws : List ℕ) → Sized ws d → behindStations (suc k) ws ≡ behindStations k (drop (1 + 2 * d) ws)
+  unfolding behindStations
+  behind-more (w ∷ ws) (sized h e) = rw (size-payload w d e h .0)
+
+good-none : (k f : ℕ) (ws : List ℕ) → Fault f ≡ gotBy 2 sizeIn (nextOf ws) → goodStations (suc k) ws ≡ false
+unfolding goodStations gotBy nextOf numbered
+good-none k f [] e = refl
+good-none k f (w ∷ ws) e = go (eqb (sizeIn (wordOf w)) 0) e
+  where
+    go : (b : Bool) → Fault f ≡ cond b (Fault 2) (Number (sizeIn (wordOf w)))
+        → cond b false (goodPositions (sizeIn (wordOf w)) ws && goodStations k (drop (2 * sizeIn (wordOf w)) ws)) ≡ false
+    go true e = refl
+    go false e = let z : _≡_ {A = ℕ} 0 1 = cc in absurd (omega arith)
+
+-- ---- the loop over them: i are read, up to the word `at`
+
+pub record StationsSoFar (ws : List ℕ) (n : ℕ) (sizes : List ℕ) (at i : ℕ) : Type 0 where
+  pub below : i ≤ n
+  pub inside : at ≤ length ws
+  pub good : goodStations n (drop 1 ws) ≡ goodStations (n - i) (drop at ws)
+  pub filled : Filling (map length (stationsFrom n (drop 1 ws))) sizes i (map length (stationsFrom (n - i) (drop at ws)))
+  pub behind : behindStations n (drop 1 ws) ≡ behindStations (n - i) (drop at ws)
+
+pub stations-start : (ws : List ℕ) (n : ℕ) → 1 ≤ length ws → StationsSoFar ws n (replicate 12 1) 1 0
+stations-start ws n h =
+    let e : n - 0 ≡ n = omega arith in
+    record {
+      below = omega arith;
+      inside = h;
+      good = rw e;
+      filled = rw e (filling-start (map length (stationsFrom n (drop 1 ws))));
+      behind = rw e;
+    }
+
+module _ (ws : List ℕ) (n : ℕ) (sizes : List ℕ) (at i : ℕ) (limit : n ≤ 12) (inv : StationsSoFar ws n sizes at i) where
+  pub sized-inside : (d : ℕ) → Sized (drop at ws) d → (at + 1 ≤ length ws) × (1 ≤ d) × (d ≤ 8)
+  sized-inside d s =
+      let b = sized-bounds (drop at ws) d s in
+      let h = inv .inside in
+      omega (arith, length-drop at ws)
+
+  pub positions-end : (d : ℕ) → at + 1 ≤ length ws → goodPositions d (drop (at + 1) ws) ≡ true → at + (1 + 2 * d) ≤ length ws
+  positions-end d h g = omega (arith, positions-inside d (drop (at + 1) ws) g, length-drop (at + 1) ws)
+
+  refused-by : goodStations n (drop 1 ws) ≡ false → refusedStations ≡ stationsRead n ws
+  unfolding stationsRead
+  refused-by l = rw l
+
+  module _ (h : i < n) where
+    left : n - i ≡ suc (n - (i + 1))
+    left = omega arith
+
+    pub stations-fault : (x : Got) (f : ℕ) → x ≡ gotBy 2 sizeIn (nextOf (drop at ws)) → x ≡ Fault f → refusedStations ≡ stationsRead n ws
+    stations-fault x f e g =
+        refused-by (inv .good ∙ ap (λ k. goodStations k (drop at ws)) left ∙ good-none (n - (i + 1)) f (drop at ws) (sym g ∙ e))
+
+    pub stations-broken : (d : ℕ) → Sized (drop at ws) d → goodPositions d (drop (at + 1) ws) ≡ false → refusedStations ≡ stationsRead n ws
+    stations-broken d s g =
+        refused-by
+        (inv .good ∙ ap (λ k. goodStations k (drop at ws)) left
+        ∙ good-broken (n - (i + 1)) d (drop at ws) s (ap (goodPositions d) (drop-drop 1 at ws) ∙ g))
+
+    pub stations-more : (d : ℕ) → Sized (drop at ws) d → goodPositions d (drop (at + 1) ws) ≡ true
+        → StationsSoFar ws n (set sizes i d) (at + (1 + 2 * d)) (i + 1)
+    stations-more d s g =
+        let e : drop (1 + 2 * d) (drop at ws) ≡ drop (at + (1 + 2 * d)) ws = drop-drop (1 + 2 * d) at ws in
+        let b = sized-inside d s in
+        record {
+          below = omega arith;
+          inside = positions-end d (b .0) g;
+          good = rw (← e, ← good-more (n - (i + 1)) d (drop at ws) s (ap (goodPositions d) (drop-drop 1 at ws) ∙ g), ← left) (inv .good);
+          filled =
+              filling-step (map length (stationsFrom n (drop 1 ws))) sizes i d (map length (stationsFrom (n - (i + 1)) (drop (at + (1 + 2 * d)) ws)))
+              (omega arith) (rw (← e, ← sizes-more (n - (i + 1)) d (drop at ws) s, ← left) (inv .filled));
+          behind = rw (← e, ← behind-more (n - (i + 1)) d (drop at ws) s, ← left) (inv .behind);
+        }
+
+  pub stations-end : n ≤ i → record { number = 0; behind = at; sizes = sizes } ≡ stationsRead n ws
+  unfolding stationsRead goodStations stationsFrom behindStations
+  stations-end h =
+      let b = inv .below in
+      let e : i ≡ n = omega arith in
+      let z : n - i ≡ 0 = omega arith in
+      let g : goodStations n (drop 1 ws) ≡ true = inv .good ∙ ap (λ k. goodStations k (drop at ws)) z in
+      let f : Filling (map length (stationsFrom n (drop 1 ws))) sizes n [] = rw (z, e) at (inv .filled) in
+      let q : behindStations n (drop 1 ws) ≡ drop at ws = inv .behind ∙ ap (λ k. behindStations k (drop at ws)) z in
+      let l = inv .inside in
+      let o : length ws - length (drop at ws) ≡ at = omega (arith, length-drop at ws) in
+      rw (g, q, o, ← filling-end (map length (stationsFrom n (drop 1 ws))) sizes n limit f)

@@ -1,0 +1,161 @@
+-- The stations of an instance: reading one size after another answers the sizes of all, and the fault of the whole comes apart into that of the stations and that of the entries.
+use Prim.Native.Nat.{ℕ, zero, suc, _+_, _-_, _*_, _≤_, _<_}
+use native.Mathlib.Omega.{arith}
+use native.Mathlib.Numerals.{add-one}
+use mathlib.Core.Path.{_≡_, refl, sym, ap, ap₂, _∙_}
+use mathlib.Core.Bool.{Bool, true, false, _&&_, cond}
+use mathlib.Core.List.{List, [], _∷_, _++_, map, append-assoc, append-nil}
+use lib.ListN.{length, getD, take, drop, set, replicate}
+use lib.Seq.{append-snoc, drop-drop}
+use lib.Dec.{eqb, leb}
+use borrow.Author.Tests.{eqb-false, ne-eqb, leb-true}
+use Rattle.words.specs.declared.Word.{Word}
+use Rattle.words.specs.declared.Word.the-variants.{Head, Size, Binding, Cost, Signs, Weight, Step, Easting, Northing, Count, Unknown}
+use Rattle.words.specs.Layout.{payloadOf, sizeWord}
+use Rattle.words.specs.Meaning.{wordOf}
+use Rattle.words.proofs.Inverse.{size-inverse}
+use Rattle.input.specs.declared.Next.{Next}
+use Rattle.input.specs.declared.Got.{Got}
+use Rattle.input.specs.declared.Got.the-variants.{Number, Fault}
+use Rattle.input.specs.Instance.{maxValues, between, sizeIn, entriesFault, stationsFault, padded}
+use Rattle.input.specs.Phases.{nextOf, numbered, gotBy, goodSizes, sizesRead, refusedStations}
+use Rattle.input.proofs.Filling.{Filling, filling-start, filling-step, filling-end}
+
+-- ---- a station word that was read
+
+-- the words start with a station word of size d
+pub data Sized : List ℕ → ℕ → Type 0 where
+  sized : {w d : ℕ} {ws : List ℕ} → 1 ≤ d → sizeIn (wordOf w) ≡ d → Sized (w ∷ ws) d
+
+pub sized-of : (ws : List ℕ) (d : ℕ) → Number d ≡ gotBy 2 sizeIn (nextOf ws) → Sized ws d
+unfolding gotBy nextOf numbered
+sized-of [] d e = let z : _≡_ {A = ℕ} 0 1 = cc in absurd (omega arith)
+sized-of (w ∷ ws) d e = go (eqb (sizeIn (wordOf w)) 0) refl e
+  where
+    go : (b : Bool) → eqb (sizeIn (wordOf w)) 0 ≡ b → Number d ≡ cond b (Fault 2) (Number (sizeIn (wordOf w))) → Sized (w ∷ ws) d
+    go true f g = let z : _≡_ {A = ℕ} 0 1 = cc in absurd (omega arith)
+    go false f g =
+        let h : sizeIn (wordOf w) ≡ d = cc in
+        let n = eqb-false (sizeIn (wordOf w)) 0 f in
+        let l : 1 ≤ d = omega arith in
+        sized l h
+
+-- a size is 1 to 8, and the whole payload of its word
+limited : (d k : ℕ) → cond (between 1 k maxValues) k 0 ≡ d → 1 ≤ d → (k ≡ d) × (k ≤ 8)
+limited d k e h = go (leb 1 k) (leb k 8) refl refl e
+  where
+    go : (a b : Bool) → leb 1 k ≡ a → leb k 8 ≡ b → cond (a && b) k 0 ≡ d → (k ≡ d) × (k ≤ 8)
+    go true true f g e = (e, leb-true k 8 g)
+    go true false f g e = absurd (omega arith)
+    go false b f g e = absurd (omega arith)
+
+size-word : (w : Word) (d : ℕ) → sizeIn w ≡ d → 1 ≤ d → (w ≡ Size d) × (d ≤ 8)
+unfolding sizeIn
+size-word (Head n) d e h = absurd (omega arith)
+size-word (Size k) d e h = let l = limited d k e h in (ap Size (l .0), omega arith)
+size-word (Binding v a) d e h = absurd (omega arith)
+size-word (Cost c) d e h = absurd (omega arith)
+size-word (Signs k x) d e h = absurd (omega arith)
+size-word (Weight w) d e h = absurd (omega arith)
+size-word (Step s i j) d e h = absurd (omega arith)
+size-word (Easting p) d e h = absurd (omega arith)
+size-word (Northing p) d e h = absurd (omega arith)
+size-word (Count k) d e h = absurd (omega arith)
+size-word Unknown d e h = absurd (omega arith)
+
+pub size-payload : (w d : ℕ) → sizeIn (wordOf w) ≡ d → 1 ≤ d → (payloadOf w ≡ d) × (d ≤ 8)
+size-payload w d e h =
+    let s = size-word (wordOf w) d e h in
+    let l = s .1 in
+    let i = size-inverse w d (s .0) in
+    omega arith
+
+pub sized-bounds : (ws : List ℕ) (d : ℕ) → Sized ws d → (1 ≤ d) × (d ≤ 8) × (1 ≤ length ws)
+sized-bounds (w ∷ ws) d (sized h e) = let s = size-payload w d e h in omega arith
+
+-- ---- k stations
+
+good-more : (k d : ℕ) (ws : List ℕ) → Sized ws d → goodSizes (suc k) ws ≡ goodSizes k (drop 1 ws)
+unfolding goodSizes
+good-more k d (w ∷ ws) (sized h e) = rw (ne-eqb (sizeIn (wordOf w)) 0 (omega arith))
+
+payload-more : (k d : ℕ) (ws : List ℕ) → Sized ws d → map payloadOf (take (suc k) ws) ≡ d ∷ map payloadOf (take k (drop 1 ws))
+payload-more k d (w ∷ ws) (sized h e) = rw (size-payload w d e h .0)
+
+good-none : (k f : ℕ) (ws : List ℕ) → Fault f ≡ gotBy 2 sizeIn (nextOf ws) → goodSizes (suc k) ws ≡ false
+unfolding goodSizes gotBy nextOf numbered
+good-none k f [] e = refl
+good-none k f (w ∷ ws) e = go (eqb (sizeIn (wordOf w)) 0) e
+  where
+    go : (b : Bool) → Fault f ≡ cond b (Fault 2) (Number (sizeIn (wordOf w))) → cond b false (goodSizes k ws) ≡ false
+    go true e = refl
+    go false e = let z : _≡_ {A = ℕ} 0 1 = cc in absurd (omega arith)
+
+-- ---- the loop over them: i are read
+
+pub record SizesSoFar (ws : List ℕ) (n : ℕ) (sizes : List ℕ) (i : ℕ) : Type 0 where
+  pub below : i ≤ n
+  pub good : goodSizes n (drop 1 ws) ≡ goodSizes (n - i) (drop (i + 1) ws)
+  pub filled : Filling (map payloadOf (take n (drop 1 ws))) sizes i (map payloadOf (take (n - i) (drop (i + 1) ws)))
+
+module _ (ws : List ℕ) (n : ℕ) (sizes : List ℕ) (i : ℕ) (limit : n ≤ 12) (inv : SizesSoFar ws n sizes i) where
+  pub sizes-fault : (x : Got) (f : ℕ) → i < n → x ≡ gotBy 2 sizeIn (nextOf (drop (i + 1) ws)) → x ≡ Fault f
+      → refusedStations ≡ sizesRead n ws
+  unfolding sizesRead
+  sizes-fault x f h e g =
+      let m : n - i ≡ suc (n - i - 1) = omega arith in
+      let l : goodSizes n (drop 1 ws) ≡ false =
+      inv .good ∙ ap (λ k. goodSizes k (drop (i + 1) ws)) m ∙ good-none (n - i - 1) f (drop (i + 1) ws) (sym g ∙ e) in
+      rw l
+
+  pub sizes-more : (d : ℕ) → i < n → Sized (drop (i + 1) ws) d → SizesSoFar ws n (set sizes i d) (i + 1)
+  sizes-more d h s =
+      let m : n - i ≡ suc (n - (i + 1)) = omega arith in
+      let e : drop 1 (drop (i + 1) ws) ≡ drop (i + 1 + 1) ws = drop-drop 1 (i + 1) ws in
+      record {
+        below = omega arith;
+        good = rw (← e, ← good-more (n - (i + 1)) d (drop (i + 1) ws) s, ← m) (inv .good);
+        filled =
+            filling-step (map payloadOf (take n (drop 1 ws))) sizes i d (map payloadOf (take (n - (i + 1)) (drop (i + 1 + 1) ws))) (omega arith)
+            (rw (← e, ← payload-more (n - (i + 1)) d (drop (i + 1) ws) s, ← m) (inv .filled));
+      }
+
+  pub sizes-end : n ≤ i → record { number = 0; behind = n + 1; sizes = sizes } ≡ sizesRead n ws
+  unfolding sizesRead goodSizes
+  sizes-end h =
+      let b = inv .below in
+      let e : i ≡ n = omega arith in
+      let z : n - i ≡ 0 = omega arith in
+      let g : goodSizes n (drop 1 ws) ≡ true = inv .good ∙ ap (λ k. goodSizes k (drop (i + 1) ws)) z in
+      let f : Filling (map payloadOf (take n (drop 1 ws))) sizes n [] = rw (z, e) at (inv .filled) in
+      let o : n + 1 ≡ 1 + n = omega arith in
+      rw (g, o, ← filling-end (map payloadOf (take n (drop 1 ws))) sizes n limit f)
+
+pub sizes-start : (ws : List ℕ) (n : ℕ) → SizesSoFar ws n (replicate 12 1) 0
+sizes-start ws n =
+    let e : n - 0 ≡ n = omega arith in
+    record {
+      below = omega arith;
+      good = rw e;
+      filled = rw e (filling-start (map payloadOf (take n (drop 1 ws))));
+    }
+
+-- the fault of the stations, then that of the entries
+pub stations-apart : (k : ℕ) (sizes ws : List ℕ) → stationsFault k sizes ws
+    ≡ cond (goodSizes k ws) (entriesFault (sizes ++ map payloadOf (take k ws)) 0 0 (drop k ws)) 2
+unfolding stationsFault goodSizes
+stations-apart zero sizes ws = ap (λ xs. entriesFault xs 0 0 ws) (sym (append-nil sizes))
+stations-apart (suc k) sizes [] = refl
+stations-apart (suc k) sizes (w ∷ ws) =
+    go (eqb (sizeIn (wordOf w)) 0) refl (stations-apart k (sizes ++ (sizeIn (wordOf w) ∷ [])) ws)
+  where
+    go : (b : Bool) → eqb (sizeIn (wordOf w)) 0 ≡ b
+        → stationsFault k (sizes ++ (sizeIn (wordOf w) ∷ [])) ws
+        ≡ cond (goodSizes k ws) (entriesFault (sizes ++ (sizeIn (wordOf w) ∷ []) ++ map payloadOf (take k ws)) 0 0 (drop k ws)) 2
+        → cond b 2 (stationsFault k (sizes ++ (sizeIn (wordOf w) ∷ [])) ws)
+        ≡ cond (cond b false (goodSizes k ws)) (entriesFault (sizes ++ (payloadOf w ∷ map payloadOf (take k ws))) 0 0 (drop k ws)) 2
+    go true f ih = refl
+    go false f ih =
+        let n = eqb-false (sizeIn (wordOf w)) 0 f in
+        let p : payloadOf w ≡ sizeIn (wordOf w) = size-payload w (sizeIn (wordOf w)) refl (omega arith) .0 in
+        rw (p, ← append-snoc sizes (sizeIn (wordOf w)) (map payloadOf (take k ws))) ih

@@ -1,0 +1,23 @@
+-- `scan_cost` does to the scan what a cost word does: one law for each way out.
+use borrow.Author.Needs.{needs}
+use Rattle.input.proofs.Scanning.{cost-high, cost-late, cost-good}
+use Rattle.input.proofs.entries.scan_cost.Statement.{statement}
+use Rattle.input.proofs.entries.scan_cost.Tie as tie
+
+returns : tie.Need-returns
+returns c = cost-high _ _ (c .if1 .taken)
+
+returns-2 : tie.Need-returns-2
+returns-2 c = cost-late _ _ (c .before .if1 .left) (c .if2 .taken)
+
+returns-3 : tie.Need-returns-3
+returns-3 c = cost-good _ _ (c .before .if1 .left) (c .if2 .left)
+
+pub scan-cost-spec : {M : Type 1} → statement M
+scan-cost-spec =
+    tie.close
+    (tie.spec
+    returns
+    returns-2
+    (λ c. search needs)
+    returns-3)

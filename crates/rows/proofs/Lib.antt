@@ -1,0 +1,7 @@
+pub mod Flat
+pub mod Laying
+pub mod Changes
+pub mod Searching
+pub mod RowWords
+pub mod Stores
+pub mod Closing

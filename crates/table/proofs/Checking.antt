@@ -1,0 +1,148 @@
+-- The test of a whole slice: each refusal contradicts what the tests of a valid table say, and a slice that gets past them all is valid.
+use Prim.Native.Nat.{ℕ, _+_, _*_, _<_, _≤_}
+use native.Mathlib.Omega.{arith}
+use mathlib.Core.Path.{_≡_, refl, sym, ap, _∙_}
+use mathlib.Core.Bool.{Bool, true, false, cond, true≢false}
+use mathlib.Core.List.{List, map}
+use lib.ListN.{length, getD, take, drop, length-map}
+use lib.Seq.{length-take-le}
+use borrow.Author.Tests.{ne-eqb, eq-eqb, le-leb}
+use Rattle.wcsp.proofs.Lists.{and-left, and-right}
+use Rattle.words.specs.Layout.{kindOf, payloadOf}
+use Rattle.words.specs.Meaning.{wordOf}
+use Rattle.clause.specs.declared.Clause.{Clause}
+use Rattle.clause.specs.Packed.{Packed, FullSigns}
+use Rattle.input.specs.Instance.{variablesIn, padded}
+use Rattle.table.specs.declared.Fulls.the-variants.{Signs, Bad}
+use Rattle.table.specs.declared.Checked.the-variants.{Table, Invalid}
+use Rattle.table.specs.Layout.{capacity}
+use Rattle.table.specs.Meaning.{variablesOf, tableSizes, domains, rowCount, rowsFrom, tableRows}
+use Rattle.table.specs.Valid.{isCount, validSizes, validRows, distinctRows, allZero, validTable}
+use Rattle.table.specs.Check.{fullClause, fullsFrom, shapeOf, checkTable}
+use Rattle.table.proofs.Twelve.{full-signs-padded, full-packed-padded}
+use Rattle.table.proofs.WordTests.{both-true, count-test, head-made}
+use Rattle.table.proofs.ValidParts.{SizesMade, sizes-made}
+use Rattle.table.proofs.Canonical.{Passed, passed}
+use Rattle.table.proofs.RowsTests.{AllValid}
+
+pub refused : (t : List ℕ) → (Passed t → ⊥) → Invalid ≡ checkTable t
+unfolding checkTable
+refused t h = go (validTable t) refl
+  where
+    go : (b : Bool) → validTable t ≡ b → Invalid ≡ cond b (Table (shapeOf t)) Invalid
+    go true e = absurd (h (passed t e))
+    go false e = refl
+
+-- ---- the head and the station words
+
+module _ (t : List ℕ) where
+  pub too-short : length t < 3 → Invalid ≡ checkTable t
+  too-short h = refused t (λ p. omega (arith, p .some, p .room))
+
+  module _ (n : ℕ) (e : n ≡ variablesIn (wordOf (getD t 0 0))) where
+    known : Passed t → n ≡ variablesOf t
+    known p = e ∙ p .variables
+
+    pub no-head : n ≡ 0 → Invalid ≡ checkTable t
+    no-head z = refused t (λ p. omega (arith, known p, p .some))
+
+    pub no-place : length t < n + 2 → Invalid ≡ checkTable t
+    no-place h = refused t (λ p. omega (arith, known p, p .room))
+
+    pub no-sizes : Bad ≡ fullsFrom n (drop 1 t) → Invalid ≡ checkTable t
+    unfolding fullsFrom
+    no-sizes b = refused t (λ p. bad (rw (known p, p .stations) at b))
+      where
+        bad : {x : Clause} → Bad ≡ Signs x → ⊥
+        bad q = let z : _≡_ {A = ℕ} 0 1 = cc in omega arith
+
+-- the front of a slice, once head and station words are read
+pub record Front (t : List ℕ) (n : ℕ) (f : Clause) : Type 0 where
+  pub given : variablesIn (wordOf (getD t 0 0)) ≡ n
+  pub number : n ≡ variablesOf t
+  pub some : n ≡ 0 → ⊥
+  pub stations : validSizes n (drop 1 t) ≡ true
+  pub fulls : f ≡ fullClause (domains t)
+  pub packed : Packed f
+  pub signs : FullSigns f (domains t)
+
+signs-read : (b : Bool) (f g : Clause) → Signs f ≡ cond b (Signs g) Bad → (b ≡ true) × (f ≡ g)
+signs-read true f g e = (refl, cc)
+signs-read false f g e = let z : _≡_ {A = ℕ} 0 1 = cc in absurd (omega arith)
+
+pub front-read : (t : List ℕ) (n : ℕ) (f : Clause) → n ≡ variablesIn (wordOf (getD t 0 0)) → (n ≡ 0 → ⊥) → Signs f ≡ fullsFrom n (drop 1 t) → Front t n f
+unfolding fullsFrom domains tableSizes
+front-read t n f e h s =
+    let r = signs-read (validSizes n (drop 1 t)) f (fullClause (padded (map payloadOf (take n (drop 1 t))))) s in
+    let m = head-made (getD t 0 0) (λ z. h (e ∙ z)) in
+    let q : n ≡ variablesOf t = e ∙ m .1 in
+    let made : SizesMade (variablesOf t) (drop 1 t) = sizes-made (variablesOf t) (drop 1 t) (rw q at (r .0)) in
+    let few : length (tableSizes t) ≤ 12
+    = rw (length-map (take (variablesOf t) (drop 1 t)) payloadOf, length-take-le (variablesOf t) (drop 1 t) (made .long)) (m .3) in
+    let g : f ≡ fullClause (domains t) = rw q at (r .1) in
+    record {
+      given = sym e;
+      number = q;
+      some = h;
+      stations = r .0;
+      fulls = g;
+      packed = rw g (full-packed-padded (tableSizes t) few (made .sizes));
+      signs = rw g (full-signs-padded (tableSizes t) few (made .sizes));
+    }
+
+-- ---- the count, the rows and the zeros
+
+module _ (t : List ℕ) (n : ℕ) (f : Clause) (front : Front t n f) where
+  pub no-count : (kindOf (getD t (n + 1) 0) ≡ 10 → ⊥) → Invalid ≡ checkTable t
+  no-count h = refused t (λ p. h (rw (front .number) (omega (arith, p .count))))
+
+  module _ (k : ℕ) (e : k ≡ payloadOf (getD t (n + 1) 0)) where
+    counted : k ≡ rowCount t
+    counted = e ∙ ap (λ m. payloadOf (getD t (m + 1) 0)) (front .number)
+
+    pub no-capacity : (room : ℕ) → room ≡ capacity (length t) n → room < k → Invalid ≡ checkTable t
+    no-capacity room q h =
+        refused t (λ p. let l : k ≤ capacity (length t) n = rw (counted, front .number) (p .fits) in omega arith)
+
+    all-rows : (p : Passed t) → AllValid (domains t) k (drop (n + 2) t) ≡ true
+    unfolding tableRows
+    all-rows p =
+        rw (counted, front .number)
+        (both-true (validRows (domains t) (rowCount t) (drop (variablesOf t + 2) t)) (distinctRows (tableRows t)) (p .rows) (p .distinct))
+
+    pub bad-rows : (r : Bool) → ((ds : List ℕ) → FullSigns f ds → r ≡ AllValid ds k (drop (n + 2) t)) → r ≡ false → Invalid ≡ checkTable t
+    bad-rows r v q = refused t (λ p. true≢false (sym (all-rows p) ∙ sym (v (domains t) (front .signs)) ∙ q))
+
+    pub bad-zeros : (z : Bool) → z ≡ allZero (drop (n + 2 + 5 * k) t) → z ≡ false → Invalid ≡ checkTable t
+    bad-zeros z v q = refused t (λ p. true≢false (sym (rw (counted, front .number) (p .zeros)) ∙ sym v ∙ q))
+
+    module _ (r z : Bool) (v : (ds : List ℕ) → FullSigns f ds → r ≡ AllValid ds k (drop (n + 2) t)) (g : r ≡ true)
+        (u : z ≡ allZero (drop (n + 2 + 5 * k) t)) (o : z ≡ true) where
+      both : AllValid (domains t) k (drop (n + 2) t) ≡ true
+      both = sym (v (domains t) (front .signs)) ∙ g
+
+      rows-good : validRows (domains t) k (drop (n + 2) t) ≡ true
+      rows-good = and-left (validRows (domains t) k (drop (n + 2) t)) (distinctRows (rowsFrom k (drop (n + 2) t))) both
+
+      distinct-good : distinctRows (tableRows t) ≡ true
+      unfolding tableRows
+      distinct-good =
+          rw (← counted, ← (front .number))
+          (and-right (validRows (domains t) k (drop (n + 2) t)) (distinctRows (rowsFrom k (drop (n + 2) t))) both)
+
+      module _ (room : ℕ) (place : n + 2 ≤ length t) (kind : kindOf (getD t (n + 1) 0) ≡ 10) (q : room ≡ capacity (length t) n) (fits : k ≤ room) where
+        valid : validTable t ≡ true
+        unfolding validTable
+        valid =
+            let count : isCount (wordOf (getD t (n + 1) 0)) ≡ true
+            = count-test (getD t (n + 1) 0) ∙ eq-eqb (kindOf (getD t (n + 1) 0)) 10 kind in
+            let holds : k ≤ capacity (length t) n = omega arith in
+            rw (front .given, ← counted, ne-eqb n 0 (front .some), le-leb (n + 2) (length t) place, front .stations, count, le-leb k (capacity (length t) n) holds, rows-good, distinct-good, ← u, o)
+
+        pub all-good : Table (record { variables = n; count = k; fulls = f }) ≡ checkTable t
+        unfolding checkTable
+        all-good =
+            let a = front .number in
+            let b = counted in
+            let c = front .fulls in
+            rw valid (λ i. Table (record { variables = a i; count = b i; fulls = c i }))
