@@ -1,0 +1,68 @@
+-- `make` answers what its definition says: the sheet's fault, 10 where the reckoned length does not fit, else the instance.
+use native.Mathlib.Omega.{arith}
+use denote.Ref.{now}
+use borrow.Author.Needs.{needs}
+use Rattle.sheet.proofs.Making.{GoodRead, good-read, Measured, measured, sizes-twelve, long-is, refused-make, short-make, good-make}
+use Rattle.sheet.proofs.make.Statement.{statement}
+use Rattle.sheet.proofs.make.Tie as tie
+
+returns : tie.Need-returns
+returns c =
+    let a = c .before .before .before .before .args in
+    refused-make (now (a .sheet)) (now (a .target)) (c .before .read-sheet .result) (c .before .read-sheet .ensures) (c .if1 .taken)
+
+leg-count-requires : tie.Need-leg-count-requires
+leg-count-requires c κs =
+    let a = c .before .before .before .before .before .before .before .args in
+    let r = c .before .before .before .before .read-sheet in
+    let g = good-read (now (a .sheet)) (r .result) (r .ensures) (c .before .before .before .if1 .left) in
+    let m = measured (now (a .sheet)) _ _ (g .fine) (g .variables) (g .entries) in
+    (m .some, m .few, omega (arith, m .few, sizes-twelve _ (r .result .sizes) (g .sizes) (omega (arith, m .few, g .variables))))
+
+sub-long : tie.Need-sub-long
+sub-long c =
+    let a = c .before .before .before .before .before .before .before .before .args in
+    let r = c .before .before .before .before .before .read-sheet in
+    let g = good-read (now (a .sheet)) (r .result) (r .ensures) (c .before .before .before .before .if1 .left) in
+    measured (now (a .sheet)) _ _ (g .fine) (g .variables) (g .entries) .within
+
+returns-2 : tie.Need-returns-2
+returns-2 c =
+    let a = c .before .before .before .before .before .before .before .before .before .args in
+    let r = c .before .before .before .before .before .before .read-sheet in
+    let g = good-read (now (a .sheet)) (r .result) (r .ensures) (c .before .before .before .before .before .if1 .left) in
+    short-make (now (a .sheet)) (now (a .target)) _ (g .fine) (long-is (now (a .sheet)) (r .result) _ g (c .before .leg-count .ensures .0)) (c .if2 .taken)
+
+write-instance-requires : tie.Need-write-instance-requires
+write-instance-requires c κs =
+    let a = c .before .before .before .before .before .before .before .before .before .before .before .args in
+    let r = c .before .before .before .before .before .before .before .before .read-sheet in
+    let g = good-read (now (a .sheet)) (r .result) (r .ensures) (c .before .before .before .before .before .before .before .if1 .left) in
+    let e = long-is (now (a .sheet)) (r .result) _ g (c .before .before .before .leg-count .ensures .0) in
+    (g .fine, (g .sizes, g .variables, g .entries, omega (arith, e, c .before .before .if2 .left)))
+
+returns-3 : tie.Need-returns-3
+returns-3 c =
+    let a = c .before .before .before .before .before .before .before .before .before .before .before .before .before .before .args in
+    let r = c .before .before .before .before .before .before .before .before .before .before .before .read-sheet in
+    let g = good-read (now (a .sheet)) (r .result) (r .ensures) (c .before .before .before .before .before .before .before .before .before .before .if1 .left) in
+    let e = long-is (now (a .sheet)) (r .result) _ g (c .before .before .before .before .before .before .leg-count .ensures .0) in
+    good-make (now (a .sheet)) (now (a .target)) _ _ (g .fine) e (c .before .before .before .before .before .if2 .left) (c .before .before .write-instance .ensures)
+
+pub make-spec : {M : Type 1} → statement M
+make-spec =
+    tie.close
+    (tie.spec
+    (λ c κs. search needs)
+    returns
+    (λ c. search needs)
+    (λ c. search needs)
+    leg-count-requires
+    (λ c. search needs)
+    (λ c. search needs)
+    sub-long
+    (λ c. search needs)
+    returns-2
+    write-instance-requires
+    (λ c. search needs)
+    returns-3)

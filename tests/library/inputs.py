@@ -1,0 +1,118 @@
+"""Sheets and instances through the proved library against the reference: small words, damage, truncation, targets."""
+
+import itertools
+import random
+
+import proved
+import reference
+from reference import fields, inputs, words
+from reference.answers import BAD_CLAIM, Refused
+
+# Each kind with payloads at and beside its bounds, and with set unnamed bits.
+INTERESTING = [0, 1, 0xFFFFFFFF] + [
+    (kind << 28) | payload
+    for kind in range(1, 13)
+    for payload in (0, 1, 2, 8, 9, 12, 13, 65535, 65536, 0x100, 0x808, 1000000, 1000001, 267435456, 267435455,
+                    0x8000000, 0xFFFFFFF)]
+
+
+def good_sheets():
+    """A dozen accepted sheets: one station to twelve, travel, constants, empty entries, bounds."""
+    chance = random.Random(1)
+    sheets = [fields.sheet([[(0, 0)], [(300, 400), (600, 800)]], [([(1, 0)], 9)]),
+              fields.sheet([[(-1000000, 1000000)]], []),
+              fields.sheet([[(0, 0)] * 8], [([], 65535), ([], 0)])]
+    for stations in (2, 3, 4, 5, 6, 8, 10, 11, 12):
+        places = [[(chance.randint(-1000000, 1000000), chance.randint(-1000000, 1000000))
+                   for _ in range(chance.randint(1, 3))] for _ in range(stations)]
+        entries = []
+        for _ in range(chance.randint(1, 4)):
+            bound = sorted(chance.sample(range(stations), chance.randint(0, min(stations, 3))))
+            entries.append(([(v, chance.randrange(len(places[v]))) for v in bound], chance.randint(0, 65535)))
+        sheets.append(fields.sheet(places, entries))
+    return sheets
+
+
+def same_instance(sheet, target):
+    expected = tuple(reference.make_instance(sheet, target))
+    got = tuple(proved.make_instance(sheet, target))
+    assert got == expected, f"make {sheet} in {len(target)} words: {got[:2]}, reference {expected[:2]}"
+
+
+def small_sheets():
+    for length in (0, 1, 2):
+        for sheet in itertools.product(INTERESTING, repeat=length):
+            yield list(sheet)
+
+
+def damaged(sheet, chance):
+    """Every word replaced by some interesting ones and with single bits flipped, then every truncation."""
+    for at in range(len(sheet)):
+        for word in chance.sample(INTERESTING, 12) + [sheet[at] ^ (1 << bit) for bit in range(32)]:
+            yield sheet[:at] + [word] + sheet[at + 1:]
+    for length in range(len(sheet)):
+        yield sheet[:length]
+
+
+def expected_cost(instance, plan):
+    try:
+        sizes, entries = inputs.read_instance(instance)
+    except Refused as refusal:
+        return refusal.number, 0
+    if not inputs.in_range(sizes, plan):
+        return BAD_CLAIM, 0
+    return 0, inputs.cost_of(entries, plan)
+
+
+def same_costs(instance, chance):
+    """The instance, damaged instances and plans of every kind."""
+    stations = instance[0] & 15
+    plans = [[], [0] * stations, [0] * (stations + 1), [255] * stations]
+    plans += [[chance.randrange(4) for _ in range(stations)] for _ in range(8)]
+    for plan in plans:
+        got, expected = tuple(proved.cost(instance, plan)), expected_cost(instance, plan)
+        assert got == expected, f"cost of {plan}: {got}, reference {expected}"
+
+
+def bounds():
+    """The bounds of document 01: stations, costs and entries."""
+    for stations in (12, 13):
+        yield [words.head(stations)] + [w for _ in range(stations)
+                                        for w in (words.size(1), words.easting(0), words.northing(0))]
+    one = fields.sheet([[(0, 0)]], [])
+    for cost in (65535, 65536):
+        yield one + [words.cost(cost)]
+    for entries in (4096, 4097):
+        yield one + [words.cost(0)] * entries
+    two = fields.sheet([[(0, 0)] * 8] * 2, [])
+    for entries in (4096 - 64, 4097 - 64):
+        yield two + [words.cost(1)] * entries
+
+
+def run():
+    chance = random.Random(2)
+    cases = 0
+    sheets = good_sheets()
+    spoiled = [sheet for good in sheets for sheet in damaged(good, chance)]
+    for sheet in itertools.chain(small_sheets(), spoiled, bounds()):
+        same_instance(sheet, [3] * 40)
+        cases += 1
+    for sheet in sheets + list(bounds()):
+        needed = len(inputs.instance_words(inputs.instance_of(inputs.read_sheet(sheet)))) if accepted(sheet) else 5
+        for length in (0, needed - 1, needed, needed + 3):
+            same_instance(sheet, [7] * length)
+            cases += 1
+    for sheet in sheets:
+        made = reference.make_instance(sheet, [0] * 16000)
+        same_costs(made.target[:made.written], chance)
+        same_costs(made.target[:made.written] + [5], chance)
+        cases += 2
+    return cases
+
+
+def accepted(sheet):
+    try:
+        inputs.read_sheet(sheet)
+    except Refused:
+        return False
+    return True
