@@ -1,0 +1,5 @@
+pub mod Places
+pub mod Writes
+pub mod Agreement
+pub mod Surveying
+pub mod Advancing

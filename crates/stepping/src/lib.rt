@@ -1,0 +1,238 @@
+// One step on a table that the caller lends: it looks at every conclusion first, then writes, whole or not at all.
+ghost use mathlib.Core.Path.{_≡_};
+ghost use mathlib.Core.Bool.{true, cond};
+ghost use Prim.Native.Nat.{ℕ, _+_, _*_, _<_, _≤_, min};
+ghost use lib.ListN.{length, getD};
+ghost use lib.Dec.{eqb, ltb};
+ghost use Rattle.wcsp.specs.Resolve.{Permitted};
+ghost use Rattle.clause.specs.Packed.{Packed, signsOf};
+ghost use Rattle.conclusions.specs.Buffer.{clausesIn, PackedBuffer};
+ghost use Rattle.rows.specs.Raw.{rawsIn, Laid, Left};
+ghost use Rattle.table.specs.Layout.{maxWeight};
+ghost use Rattle.table.specs.Meaning.{tableRows, domains};
+ghost use Rattle.table.specs.Valid.{validTable};
+ghost use Rattle.table.specs.Check.{shapeOf};
+ghost use Rattle.stepping.specs.Advance.{advanceCall};
+ghost use Rattle.stepping.specs.Turns.{weightAt, placeIn, freshTo, heavyTo, Placed, raisedTo, takenFrom, appendedTo, Planned};
+use clause::Clause;
+use rows::Found;
+use table::Shape;
+
+// A step made, with the number of rows after it and how many of them, in front, were there before; or the number of a refusal.
+pub enum Advanced {
+    Made(usize, usize),
+    Refused(u32),
+}
+
+// What the look at the conclusions finds: how many have no row yet, and whether a weight would pass the limit.
+struct Sight {
+    pub fresh: usize,
+    pub heavy: bool,
+}
+
+// The look before a step: how many conclusions count, the weight that each gets, and the refusal's number, 0 for none.
+struct Plan {
+    pub kept: usize,
+    pub moved: u32,
+    pub number: u32,
+}
+
+fn lesser(a: u32, b: u32) -> u32
+    ensures { λ r. ⌜ r ≡ min a b ⌝ }
+{
+    if a < b {
+        return a;
+    }
+    b
+}
+
+// How many rows go, of one with this weight, when the moved weight is taken from it.
+fn used(weight: u32, moved: u32) -> usize
+    ensures { λ r. ⌜ (r ≡ cond (eqb weight moved) 1 0) × (r ≤ 1) ⌝ }
+{
+    if weight == moved {
+        return 1;
+    }
+    0
+}
+
+// Where the clause's row stands; the row count if it has none.
+fn place(t: &[u32], base: usize, count: usize, x: Clause) -> usize
+    requires { ⌜ (base + 5 * count ≤ length (now t)) × Packed x ⌝ }
+    ensures { λ r. ⌜ (r ≡ placeIn count (rawsIn (now (t .entry)) base count) (signsOf x)) × (r ≤ count) ⌝ }
+{
+    let found = rows::find(t, base, count, x);
+    match found {
+        Found::At(k) => k,
+        Found::Missing => count,
+    }
+}
+
+// Whether the row at this place would pass the limit.
+fn passes(t: &[u32], base: usize, count: usize, k: usize, moved: u32) -> bool
+    requires { ⌜ (base + 5 * count ≤ length (now t)) × (k ≤ count) × (moved ≤ 268435455) ⌝ }
+    ensures { λ r. ⌜ r ≡ ltb maxWeight (weightAt (rawsIn (now (t .entry)) base count) k + moved) ⌝ }
+{
+    if k == count {
+        return false;
+    }
+    268435455 < rows::weight_of(t, base, k) + moved
+}
+
+// Notes where each conclusion's row stands; the row count for one that has none.
+fn look(
+    t: &[u32],
+    base: usize,
+    count: usize,
+    buffer: &[u32; 104],
+    kept: usize,
+    moved: u32,
+    places: &mut [usize; 26],
+) -> Sight
+    requires { ⌜ (base + 5 * count ≤ length (now t)) × (kept ≤ 26) × (moved ≤ 268435455) × PackedBuffer (now buffer) × (length (now places) ≡ 26) ⌝ }
+    ensures { λ r. ⌜ (r .fresh ≡ freshTo count (rawsIn (now (t .entry)) base count) (clausesIn kept (now (buffer .entry))) kept) × (r .heavy ≡ heavyTo moved count (rawsIn (now (t .entry)) base count) (clausesIn kept (now (buffer .entry))) kept) × Placed count (rawsIn (now (t .entry)) base count) (clausesIn kept (now (buffer .entry))) kept (now (places .exit)) × (r .fresh ≤ kept) ⌝ }
+{
+    let mut fresh = 0;
+    let mut heavy = false;
+    let mut m = 0;
+    while m < kept {
+        let k = place(t, base, count, conclusions::clause_at(buffer, m));
+        places[m] = k;
+        if k == count {
+            fresh += 1;
+        }
+        if passes(t, base, count, k, moved) {
+            heavy = true;
+        }
+        m += 1;
+    }
+    Sight { fresh, heavy }
+}
+
+// The moved weight added to every row that was found.
+fn raise(t: &mut [u32], base: usize, count: usize, places: &[usize; 26], kept: usize, moved: u32)
+    requires { ⌜ Laid (now t) base (rawsIn (now t) base count) × (kept ≤ 26) × ((m : ℕ) → m < kept → weightAt (raisedTo moved (now places) (rawsIn (now t) base count) m) (getD (now places) m 0) + moved ≤ 268435455) ⌝ }
+    ensures { λ r. ⌜ Left (now (t .entry)) base (now (t .exit)) (raisedTo moved (now (places .entry)) (rawsIn (now (t .entry)) base count) kept) ⌝ }
+{
+    let mut m = 0;
+    while m < kept {
+        let k = places[m];
+        if k < count {
+            let weight = rows::weight_of(t, base, k);
+            rows::reweigh(t, base, count, k, weight + moved);
+        }
+        m += 1;
+    }
+}
+
+// The moved weight taken from row k; a row at 0 is removed. The answer is the number of rows left.
+fn lessen(t: &mut [u32], base: usize, count: usize, k: usize, moved: u32) -> usize
+    requires { ⌜ Laid (now t) base (rawsIn (now t) base count) × (k < count) × (moved ≤ weightAt (rawsIn (now t) base count) k) ⌝ }
+    ensures { λ r. ⌜ Left (now (t .entry)) base (now (t .exit)) (takenFrom moved k (rawsIn (now (t .entry)) base count)) × (r ≡ length (takenFrom moved k (rawsIn (now (t .entry)) base count))) ⌝ }
+{
+    let weight = rows::weight_of(t, base, k);
+    if weight == moved {
+        rows::remove(t, base, count, k);
+        return count - 1;
+    }
+    rows::reweigh(t, base, count, k, weight - moved);
+    count
+}
+
+// A new row for every conclusion that had none, in order. `old` is the count that marks those, `count` the rows there now.
+fn append_missing(
+    t: &mut [u32],
+    base: usize,
+    count: usize,
+    old: usize,
+    buffer: &[u32; 104],
+    places: &[usize; 26],
+    kept: usize,
+    moved: u32,
+) -> usize
+    requires { ⌜ Laid (now t) base (rawsIn (now t) base count) × (kept ≤ 26) × (moved ≤ 268435455) × PackedBuffer (now buffer) × (base + 5 * length (appendedTo moved old (now places) (clausesIn kept (now buffer)) (rawsIn (now t) base count) kept) ≤ length (now t)) ⌝ }
+    ensures { λ r. ⌜ Left (now (t .entry)) base (now (t .exit)) (appendedTo moved old (now (places .entry)) (clausesIn kept (now (buffer .entry))) (rawsIn (now (t .entry)) base count) kept) × (r ≡ length (appendedTo moved old (now (places .entry)) (clausesIn kept (now (buffer .entry))) (rawsIn (now (t .entry)) base count) kept)) ⌝ }
+{
+    let mut now = count;
+    let mut m = 0;
+    while m < kept {
+        if places[m] == old {
+            rows::append(t, base, now, conclusions::clause_at(buffer, m), moved);
+            now += 1;
+        }
+        m += 1;
+    }
+    now
+}
+
+// The look at the whole step: its conclusions and their places, and whether it may be made. 11 comes before 12.
+fn survey(
+    t: &[u32],
+    shape: Shape,
+    v: u32,
+    i: usize,
+    j: usize,
+    buffer: &mut [u32; 104],
+    places: &mut [usize; 26],
+) -> Plan
+    requires { ⌜ (validTable (now t) ≡ true) × (shape ≡ shapeOf (now t)) × Permitted (domains (now t)) (tableRows (now t)) (record { variable = v; first = i; second = j }) × PackedBuffer (now buffer) × (length (now places) ≡ 26) ⌝ }
+    ensures { λ r. ⌜ Planned (now (t .entry)) (record { variable = v; first = i; second = j }) (now (buffer .exit)) (now (places .exit)) (r .kept) (r .moved) (r .number) ⌝ }
+{
+    let n = shape.variables;
+    let base = n + 2;
+    let count = shape.count;
+    let fulls = shape.fulls;
+    let first = rows::weight_of(t, base, i);
+    let second = rows::weight_of(t, base, j);
+    let moved = lesser(first, second);
+    let kept = conclusions::conclude(
+        buffer,
+        rows::clause_of(t, base, i),
+        rows::clause_of(t, base, j),
+        v,
+        fulls,
+    );
+    let sight = look(t, base, count, buffer, kept, moved, places);
+    if sight.heavy {
+        return Plan {
+            kept,
+            moved,
+            number: 11,
+        };
+    }
+    let left = count - used(first, moved) - used(second, moved);
+    if table::room(t.len(), n) < left + sight.fresh {
+        return Plan {
+            kept,
+            moved,
+            number: 12,
+        };
+    }
+    Plan {
+        kept,
+        moved,
+        number: 0,
+    }
+}
+
+// The step on rows i and j of a valid table, a permitted pair on v.
+pub fn advance(t: &mut [u32], shape: Shape, v: u32, i: usize, j: usize) -> Advanced
+    requires { ⌜ (validTable (now t) ≡ true) × (shape ≡ shapeOf (now t)) × Permitted (domains (now t)) (tableRows (now t)) (record { variable = v; first = i; second = j }) ⌝ }
+    ensures { λ r. ⌜ (r ≡ advanceCall (now (t .entry)) (record { variable = v; first = i; second = j }) .answer) × (now (t .exit) ≡ advanceCall (now (t .entry)) (record { variable = v; first = i; second = j }) .table) ⌝ }
+{
+    let n = shape.variables;
+    let base = n + 2;
+    let count = shape.count;
+    let mut buffer = [0u32; 104];
+    let mut places = [0usize; 26];
+    let plan = survey(t, shape, v, i, j, &mut buffer, &mut places);
+    if plan.number != 0 {
+        return Advanced::Refused(plan.number);
+    }
+    raise(t, base, count, &places, plan.kept, plan.moved);
+    let fewer = lessen(t, base, count, j, plan.moved);
+    let old = lessen(t, base, fewer, i, plan.moved);
+    let now = append_missing(t, base, old, count, &buffer, &places, plan.kept, plan.moved);
+    t[n + 1] = words::count(now as u32);
+    Advanced::Made(now, old)
+}
