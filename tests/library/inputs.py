@@ -64,14 +64,26 @@ def expected_cost(instance, plan):
     return 0, inputs.cost_of(entries, plan)
 
 
+def same_cost(instance, plan):
+    got, expected = tuple(proved.cost(instance, plan)), expected_cost(instance, plan)
+    assert got == expected, f"cost of {plan} in {instance}: {got}, reference {expected}"
+
+
 def same_costs(instance, chance):
-    """The instance, damaged instances and plans of every kind."""
+    """Plans of every kind: cut, too long, out of range, and in range or nearly so."""
     stations = instance[0] & 15
     plans = [[], [0] * stations, [0] * (stations + 1), [255] * stations]
     plans += [[chance.randrange(4) for _ in range(stations)] for _ in range(8)]
     for plan in plans:
-        got, expected = tuple(proved.cost(instance, plan)), expected_cost(instance, plan)
-        assert got == expected, f"cost of {plan}: {got}, reference {expected}"
+        same_cost(instance, plan)
+    return len(plans)
+
+
+def answer_slices(instance):
+    """An answer is written as far as its slice goes, and what lies behind its fields is kept."""
+    number, cost = proved.cost(instance, [0] * (instance[0] & 15))
+    for length, expected in ((0, []), (2, [cost, 77]), (3, [cost, 77, 77])):
+        assert proved.answered_cost(instance, [0] * (instance[0] & 15), length) == (number, expected)
 
 
 def bounds():
@@ -89,25 +101,62 @@ def bounds():
         yield two + [words.cost(1)] * entries
 
 
-def run():
-    chance = random.Random(2)
-    cases = 0
-    sheets = good_sheets()
+def instance_bounds():
+    """The same bounds of an instance."""
+    for stations in (12, 13):
+        yield [words.head(stations)] + [words.size(1)] * stations
+    one = fields.instance([1], [])
+    for cost in (65535, 65536):
+        yield one + [words.cost(cost)]
+    for entries in (4096, 4097):
+        yield one + [words.cost(1)] * entries
+
+
+def room_for(sheet):
+    """Words in a target that is a little longer than the sheet's instance."""
+    if not accepted(sheet):
+        return 40
+    return len(inputs.instance_words(inputs.instance_of(inputs.read_sheet(sheet)))) + 3
+
+
+def sheet_cases(sheets, chance):
     spoiled = [sheet for good in sheets for sheet in damaged(good, chance)]
+    cases = 0
     for sheet in itertools.chain(small_sheets(), spoiled, bounds()):
-        same_instance(sheet, [3] * 40)
+        same_instance(sheet, [3] * room_for(sheet))
         cases += 1
     for sheet in sheets + list(bounds()):
-        needed = len(inputs.instance_words(inputs.instance_of(inputs.read_sheet(sheet)))) if accepted(sheet) else 5
+        needed = room_for(sheet) - 3
         for length in (0, needed - 1, needed, needed + 3):
             same_instance(sheet, [7] * length)
             cases += 1
+    return cases
+
+
+def instance_cases(sheets, chance):
+    """The same words read as instances: small ones, made ones, damaged ones, and the bounds without coordinates."""
+    cases = 0
+    for words_given in small_sheets():
+        same_cost(words_given, [0])
+        cases += 1
     for sheet in sheets:
         made = reference.make_instance(sheet, [0] * 16000)
-        same_costs(made.target[:made.written], chance)
-        same_costs(made.target[:made.written] + [5], chance)
-        cases += 2
+        instance = made.target[:made.written]
+        cases += same_costs(instance, chance)
+        answer_slices(instance)
+        for spoiled in damaged(instance[:40], chance):
+            same_cost(spoiled, [0] * (spoiled[0] & 15) if spoiled else [])
+            cases += 1
+    for instance in instance_bounds():
+        same_cost(instance, [0] * (instance[0] & 15))
+        cases += 1
     return cases
+
+
+def run():
+    chance = random.Random(2)
+    sheets = good_sheets()
+    return sheet_cases(sheets, chance) + instance_cases(sheets, chance)
 
 
 def accepted(sheet):

@@ -23,16 +23,19 @@ class Priced(NamedTuple):
 
 
 class Slice:
-    """A lent slice: it passes as a pointer and a length."""
+    """A lent slice: it passes as a pointer and a length, and has guards behind it that no call may change."""
+
+    GUARDS = [91, 92, 93]
 
     def __init__(self, element, content):
-        self.memory = (element * max(len(content), 1))(*content)
+        self.memory = (element * (len(content) + len(self.GUARDS)))(*content, *self.GUARDS)
         self.length = len(content)
 
     def passed(self):
         return [ctypes.byref(self.memory), SIZE(self.length)]
 
     def content(self):
+        assert list(self.memory[self.length:]) == self.GUARDS, "a call wrote past a lent slice"
         return list(self.memory[:self.length])
 
 
@@ -53,6 +56,75 @@ def make_instance(sheet, target):
 
 
 def cost(instance, plan):
-    answer = Slice(FIELD, [77])
+    number, fields = answered_cost(instance, plan, 1)
+    return Priced(number, *fields)
+
+
+def answered_cost(instance, plan, length):
+    """The cost call with an answer slice of some length; what it holds afterwards."""
+    answer = Slice(FIELD, [77] * length)
     number = call("gotalhim_cost", [Slice(WORD, instance), Slice(BYTE, plan), answer])
-    return Priced(number, answer.content()[0])
+    return number, answer.content()
+
+
+class Encoded(NamedTuple):
+    number: int
+    table: list
+
+
+class Stepped(NamedTuple):
+    number: int
+    done: int
+    word: int
+    table: list
+
+
+class Ran(NamedTuple):
+    number: int
+    outcome: int        # 0 done, 1 paused, 2 refused
+    steps: int
+    bound: int
+    table: list
+    derivation: list
+
+
+class Planned(NamedTuple):
+    number: int
+    target: list
+
+
+class Readout(NamedTuple):
+    number: int
+    metres: int
+
+
+def encode(instance, table):
+    lent, answer = Slice(WORD, table), Slice(FIELD, [77])
+    number = call("gotalhim_encode", [Slice(WORD, instance), lent, answer])
+    return Encoded(number, lent.content())
+
+
+def step_call(table):
+    lent, answer = Slice(WORD, table), Slice(FIELD, [77, 77])
+    number = call("gotalhim_step", [lent, answer])
+    done, word = answer.content()
+    return Stepped(number, done, word, lent.content())
+
+
+def run_call(table, limit, derivation):
+    lent, words, answer = Slice(WORD, table), Slice(WORD, derivation), Slice(FIELD, [77, 77, 77])
+    number = call("gotalhim_run", [lent, SIZE(limit), words, answer])
+    return Ran(number, *answer.content(), lent.content(), words.content())
+
+
+def plan_call(table, target):
+    lent = Slice(BYTE, target)
+    number = call("gotalhim_plan", [Slice(WORD, table), lent])
+    return Planned(number, lent.content())
+
+
+def readout_call(sheet, plan, variable, easting, northing):
+    answer = Slice(FIELD, [77])
+    number = call("gotalhim_readout", [Slice(WORD, sheet), Slice(BYTE, plan), WORD(variable), WORD(easting),
+                                       WORD(northing), answer])
+    return Readout(number, answer.content()[0])

@@ -1,1 +1,2 @@
+-- The laws of this crate that belong to no one function.
 pub mod AllCases

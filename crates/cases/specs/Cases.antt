@@ -1,4 +1,4 @@
--- The joint table of document 01's small fields: what is given, what document 01 says comes of it, and the claim that the definitions give just that.
+-- The joint table of document 01's small fields: what is given, what document 01 says comes of it, and the claim that the definitions give just that. P8 is of distances: its pairs stand beside the fields, under the one claim.
 use Prim.Native.Nat.{ℕ, zero, suc}
 use mathlib.Core.Path.{_≡_}
 use mathlib.Core.List.{List, [], _∷_, map}

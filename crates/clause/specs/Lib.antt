@@ -1,1 +1,2 @@
+-- Clauses as packed signs.
 pub mod Packed

@@ -1,1 +1,2 @@
+-- Whole metres.
 pub mod Metres

@@ -1,25 +1,24 @@
 -- An accepted instance has sizes and entries within every limit, and so has an accepted sheet, whose positions lie within the range.
-use Prim.Native.Nat.{ℕ, zero, suc, _+_, _-_, _*_, _≤_, _<_}
+use Prim.Native.Nat.{ℕ, zero, suc, _+_, _*_, _≤_}
 use native.Mathlib.Omega.{arith}
 use native.Mathlib.Nat.{mul-le-mul}
 use mathlib.Core.Path.{_≡_, refl, sym, ap, _∙_}
 use mathlib.Core.Bool.{Bool, true, false, _&&_, cond, false≢true}
-use mathlib.Core.List.{List, [], _∷_, _++_, map}
+use mathlib.Core.List.{List, [], _∷_, map}
 use lib.ListN.{length, getD, take, drop}
 use lib.Dec.{eqb}
 use borrow.Author.Tests.{eqb-false}
 use Rattle.wcsp.specs.Clause.{AllPositive, nilPositive, consPositive}
-use Rattle.wcsp.specs.Entry.{cost}
 use Rattle.words.specs.declared.Coordinate.{Coordinate}
 use Rattle.words.specs.declared.Coordinate.the-variants.{At, Outside}
 use Rattle.words.specs.Layout.{payloadOf}
 use Rattle.words.specs.Meaning.{wordOf, coordinateOf}
 use Rattle.words.proofs.Coordinates.{coordinate-inverse}
-use Rattle.input.specs.Instance.{maxVariables, maxValues, variablesIn, sizeIn, entriesFault, stationsFault, instanceFault, entriesFrom, sizesOf, entriesOf}
-use Rattle.input.specs.Sheet.{Point, legCount, sheetStationsFault, sheetFault, offsetIn, offsetOf, pointsFrom, stationsFrom, positionsOf, sheetSizes, entryWordsOf}
+use Rattle.input.specs.Instance.{maxValues, variablesIn, sizeIn, entriesFault, stationsFault, instanceFault, sizesOf, entriesOf}
+use Rattle.input.specs.Sheet.{legCount, sheetStationsFault, sheetFault, offsetIn, offsetOf, pointsFrom, stationsFrom, positionsOf, sheetSizes, entryWordsOf}
 use Rattle.input.specs.Phases.{goodSizes, goodPositions, goodStations}
 use Rattle.input.specs.Accepted.{Each, nilEach, consEach, Sizes, Entries, Accepted, Placed, AcceptedSheet}
-use Rattle.input.proofs.Sizes.{Sized, sized, size-payload}
+use Rattle.input.proofs.Sizes.{sized, size-payload}
 use Rattle.input.proofs.Located.{sizes-more}
 use Rattle.input.proofs.Validating.{Headed, headed-bounds, headed-payload, head-some, sizes-are, entries-are, sizes-number, instance-apart}
 use Rattle.input.proofs.Sheets as sheets

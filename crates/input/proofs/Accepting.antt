@@ -1,19 +1,19 @@
 -- Entries' words without a fault: the entries that they mean are well formed, few enough and of costs within the limit. The bindings of the open entry rise up to the variable that the scan has come to.
-use Prim.Native.Nat.{ℕ, zero, suc, _+_, _-_, _*_, _≤_, _<_}
+use Prim.Native.Nat.{ℕ, suc, _+_, _*_, _≤_, _<_}
 use native.Mathlib.Omega.{arith}
-use native.Mathlib.Nat.{mul-le-mul}
-use mathlib.Core.Path.{_≡_, refl, sym, ap, _∙_}
+use mathlib.Core.Path.{_≡_, refl}
 use mathlib.Core.Bool.{Bool, true, false, _&&_, cond}
 use mathlib.Core.List.{List, [], _∷_, _++_}
-use lib.ListN.{length, getD, List·getD-eq-default}
-use lib.Dec.{eqb, leb, ltb}
+use lib.ListN.{length, getD}
+use lib.Dec.{leb, ltb}
 use borrow.Author.Tests.{leb-true, leb-false, ltb-true, ltb-false}
-use Rattle.wcsp.specs.Entry.{Binding, Entry, Rising, nilRising, consRising, WellFormed, nilEntries, consEntries, matches, cost}
+use Rattle.wcsp.specs.Entry.{Binding, Entry, Rising, nilRising, consRising, nilEntries, consEntries, matches, cost}
 use Rattle.words.specs.declared.Word.{Word}
 use Rattle.words.specs.declared.Word.the-variants.{Head, Size, Cost, Signs, Weight, Step, Easting, Northing, Count, Unknown}
 use Rattle.words.specs.declared.Word.the-variants.{Binding as BindingOf}
 use Rattle.words.specs.Meaning.{wordOf}
-use Rattle.input.specs.Instance.{Scanned, goes, stops, maxCost, maxEntries, scanBinding, scanCost, scanWord, resume, entriesFault, entriesAfter, entriesFrom}
+use Rattle.input.specs.Instance.{goes, stops, maxCost, maxEntries, scanBinding, scanCost, scanWord, resume, entriesFault, entriesAfter, entriesFrom}
+use Rattle.input.proofs.Scanning.{known}
 use Rattle.input.specs.Accepted.{Each, nilEach, consEach, Entries}
 
 -- ---- the bindings of an open entry
@@ -32,13 +32,6 @@ rises-further b (one h′ l′ m′ r) h l m = one h′ l′ m′ (rises-further
 rising : {ds : List ℕ} {k f : ℕ} {bs : List Binding} → Rises ds k bs f → Rising ds k bs
 rising none = nilRising
 rising (one h l m r) = consRising h l m (rising r)
-
-known : (ds : List ℕ) (v a : ℕ) → a < getD ds v 0 → v < length ds
-known ds v a h = go (leb (length ds) v) refl
-  where
-    go : (b : Bool) → leb (length ds) v ≡ b → v < length ds
-    go true e = let z = List·getD-eq-default ds 0 (leb-true (length ds) v e) in absurd (omega arith)
-    go false e = leb-false (length ds) v e
 
 -- ---- the words
 

@@ -1,3 +1,4 @@
+-- The laws of this crate that belong to no one function.
 pub mod Others
 pub mod Reading
 pub mod Filling
@@ -13,3 +14,4 @@ pub mod Accepting
 pub mod Acceptance
 pub mod Pricing
 pub mod Padding
+mod Carried

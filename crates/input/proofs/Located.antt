@@ -1,24 +1,22 @@
 -- The stations of a sheet: reading one after another answers the sizes of all and where the entries start, and the fault of the whole comes apart into that of the stations and that of the entries.
-use Prim.Native.Nat.{ℕ, zero, suc, _+_, _-_, _*_, _%_, _≤_, _<_}
+use Prim.Native.Nat.{ℕ, zero, suc, _+_, _-_, _*_, _≤_, _<_}
 use native.Mathlib.Omega.{arith}
-use mathlib.Core.Path.{_≡_, refl, sym, ap, ap₂, _∙_}
+use mathlib.Core.Path.{_≡_, refl, sym, ap, _∙_}
 use mathlib.Core.Bool.{Bool, true, false, _&&_, cond, false≢true}
-use mathlib.Core.List.{List, [], _∷_, _++_, map, append-nil}
-use lib.ListN.{length, getD, take, drop, set, replicate, length-drop}
-use lib.Seq.{append-snoc, drop-drop}
+use mathlib.Core.List.{List, [], _∷_, map}
+use lib.ListN.{length, drop, set, replicate, length-drop}
+use lib.Seq.{drop-drop}
 use lib.Dec.{eqb}
-use borrow.Author.Tests.{eq-eqb, eqb-false, ne-eqb}
-use Rattle.words.specs.declared.Word.{Word}
-use Rattle.words.specs.Layout.{payloadOf}
+use borrow.Author.Tests.{ne-eqb}
 use Rattle.words.specs.Meaning.{wordOf}
 use Rattle.input.specs.declared.Got.{Got}
 use Rattle.input.specs.declared.Got.the-variants.{Number, Fault}
-use Rattle.input.specs.Instance.{sizeIn, entriesFault}
-use Rattle.input.specs.Sheet.{Point, isEasting, isNorthing, legCount, sheetStationsFault, pointsFrom, stationsFrom, behindStations}
+use Rattle.input.specs.Instance.{sizeIn}
+use Rattle.input.specs.Sheet.{isEasting, isNorthing, pointsFrom, stationsFrom, behindStations}
 use Rattle.input.specs.Phases.{nextOf, isNext, numbered, gotBy, goodPositions, goodStations, stationsRead, refusedStations}
 use Rattle.input.proofs.Filling.{Filling, filling-start, filling-step, filling-end}
 use Rattle.input.proofs.Positions.{next-inside}
-use Rattle.input.proofs.Sizes.{Sized, sized, sized-of, sized-bounds, size-payload}
+use Rattle.input.proofs.Sizes.{Sized, sized, sized-bounds, size-payload}
 
 -- ---- the positions of d values
 

@@ -8,7 +8,7 @@ use types.Run.{OneOf, miss}
 use Rattle.words.proofs.Word.{the-type}
 use Rattle.words.specs.declared.Word.{Word}
 use Rattle.words.specs.declared.Word.the-variants.{Head, Size, Binding, Cost, Signs, Weight, Step, Easting, Northing, Count, Unknown}
-use Rattle.input.specs.Instance.{variablesIn, sizeIn, Scanned, stops, scanWord}
+use Rattle.input.specs.Instance.{variablesIn, sizeIn, stops, scanWord}
 use Rattle.input.specs.Sheet.{isEasting, isNorthing}
 use Rattle.input.specs.Scan.{costIn, matchedAfter}
 

@@ -1,14 +1,14 @@
 -- Twelve variables in place of n: each that the field lacks has one value, so an assignment of n values is one of twelve, costs the same, and there is no other.
-use Prim.Native.Nat.{ℕ, zero, suc, _+_, _-_, _≤_, _<_, suc-le-suc}
+use Prim.Native.Nat.{ℕ, zero, suc, _-_}
 use native.Mathlib.Omega.{arith}
 use mathlib.Core.Path.{_≡_, refl, sym, ap, ap₂, _∙_}
-use mathlib.Core.Bool.{Bool, true, false, _&&_, cond, false≢true}
+use mathlib.Core.Bool.{Bool, true, false, _&&_, false≢true}
 use mathlib.Core.Logic.{_↔_}
 use mathlib.Core.List.{List, [], _∷_, _++_}
-use lib.ListN.{length, getD, take, replicate, length-append, length-replicate, drop, take-append-drop, List·getD-append}
-use lib.Dec.{eqb, ltb}
+use lib.ListN.{length, getD, take, replicate, length-append, drop, take-append-drop, List·getD-append}
+use lib.Dec.{ltb}
 use borrow.Author.Tests.{lt-ltb, ltb-true}
-use Rattle.wcsp.specs.Clause.{Along, nil, cons, InRange, AllPositive, nilPositive, consPositive}
+use Rattle.wcsp.specs.Clause.{nil, cons, InRange, AllPositive, nilPositive, consPositive}
 use Rattle.wcsp.specs.Entry.{Binding, Entry, Rising, nilRising, consRising, WellFormed, nilEntries, consEntries, matches, cost}
 use Rattle.input.specs.Instance.{padded, paddedValues}
 use Rattle.input.specs.Calls.{isAssignment}

@@ -1,24 +1,23 @@
 -- The cost of an assignment for an instance: the fold over the words is the sum over the entries, and the call's answer is made from its parts.
-use Prim.Native.Nat.{ℕ, zero, suc, _+_, _-_, _≤_, _<_}
+use Prim.Native.Nat.{ℕ, _+_, _≤_}
 use native.Mathlib.Omega.{arith}
-use mathlib.Core.Path.{_≡_, refl, sym, ap, ap₂, _∙_}
+use mathlib.Core.Path.{_≡_, refl, sym, ap, _∙_}
 use mathlib.Core.Bool.{Bool, true, false, _&&_, cond}
 use mathlib.Core.List.{List, [], _∷_, _++_}
-use lib.ListN.{length, getD, take, drop, replicate}
+use lib.ListN.{length, getD, take, drop}
 use lib.Dec.{eqb}
-use borrow.Author.Tests.{eq-eqb, eqb-true, ne-eqb}
-use Rattle.wcsp.specs.Entry.{Binding, Entry, matches, cost}
+use borrow.Author.Tests.{eq-eqb, eqb-true}
+use Rattle.wcsp.specs.Entry.{Binding, matches, cost}
 use Rattle.words.specs.declared.Word.{Word}
 use Rattle.words.specs.declared.Word.the-variants.{Head, Size, Cost, Signs, Weight, Step, Easting, Northing, Count, Unknown}
 use Rattle.words.specs.declared.Word.the-variants.{Binding as BindingOf}
 use Rattle.words.specs.Layout.{payloadOf}
 use Rattle.words.specs.Meaning.{wordOf}
 use Rattle.input.specs.declared.Validated.{Validated}
-use Rattle.input.specs.declared.Answer.{Answer}
 use Rattle.input.specs.Instance.{instanceFault, entriesAfter, entriesFrom, sizesOf, entriesOf, padded}
 use Rattle.input.specs.Scan.{costIn, matchedAfter, costFrom}
-use Rattle.input.specs.Accepted.{Accepted, Sizes}
-use Rattle.input.specs.Calls.{refusedInstance, validateCall, refused, good, isAssignment, costCall}
+use Rattle.input.specs.Accepted.{Accepted}
+use Rattle.input.specs.Calls.{validateCall, refused, good, isAssignment, costCall}
 use Rattle.input.proofs.Validating.{padded-length, padded-front}
 use Rattle.input.proofs.Acceptance.{accepted}
 

@@ -1,20 +1,19 @@
 -- The words in front of the entries: what each reader answers, over plain numbers and lists, one law for each way out.
-use Prim.Native.Nat.{ℕ, zero, suc, _+_, _-_, _*_, _≤_, _<_}
+use Prim.Native.Nat.{ℕ, _≤_, _<_}
 use native.Mathlib.Omega.{arith}
-use mathlib.Core.Path.{_≡_, refl, sym, ap, _∙_}
+use mathlib.Core.Path.{_≡_, refl, sym, _∙_}
 use mathlib.Core.Bool.{Bool, true, false, _&&_, cond}
-use mathlib.Core.List.{List, [], _∷_, _++_}
-use lib.ListN.{length, getD, take, drop, drop-of-length-le}
+use mathlib.Core.List.{List}
+use lib.ListN.{length, getD, drop, drop-of-length-le}
 use lib.Dec.{leb}
 use lib.Seq.{drop-cons}
-use borrow.Author.Tests.{eq-eqb, ne-eqb, le-leb, lt-leb}
+use borrow.Author.Tests.{ne-eqb, le-leb, lt-leb, leb-true}
 use Rattle.words.specs.declared.Word.{Word}
 use Rattle.words.specs.declared.Word.the-variants.{Head, Size}
 use Rattle.words.specs.Meaning.{wordOf}
 use Rattle.input.specs.declared.Next.{Next}
 use Rattle.input.specs.declared.Next.the-variants.{End}
 use Rattle.input.specs.declared.Next.the-variants.{Word as Found}
-use Rattle.input.specs.declared.Got.{Got}
 use Rattle.input.specs.declared.Got.the-variants.{Number, Fault}
 use Rattle.input.specs.Instance.{maxVariables, maxValues, between, variablesIn, sizeIn}
 use Rattle.input.specs.Phases.{nextOf, numbered, gotBy}
@@ -74,3 +73,12 @@ variables-in w n m e f = rw e f
 pub size-in : (w : Word) (d m : ℕ) → w ≡ Size d → cond (between 1 d maxValues) d 0 ≡ m → sizeIn w ≡ m
 unfolding sizeIn
 size-in w d m e f = rw e f
+
+-- a number that was found within its limit is the one that was looked at
+pub limited : (most d k : ℕ) → cond (between 1 k most) k 0 ≡ d → 1 ≤ d → (k ≡ d) × (k ≤ most)
+limited most d k e h = go (leb 1 k) (leb k most) refl refl e
+  where
+    go : (a b : Bool) → leb 1 k ≡ a → leb k most ≡ b → cond (a && b) k 0 ≡ d → (k ≡ d) × (k ≤ most)
+    go true true f g e = (e, leb-true k most g)
+    go true false f g e = absurd (omega arith)
+    go false b f g e = absurd (omega arith)

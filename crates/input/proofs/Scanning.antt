@@ -1,5 +1,5 @@
 -- The entries' words, one after another: what each does to the scan, and that the scan of the rest answers for the whole.
-use Prim.Native.Nat.{ℕ, zero, suc, _+_, _-_, _≤_, _<_}
+use Prim.Native.Nat.{ℕ, suc, _+_, _≤_, _<_}
 use native.Mathlib.Omega.{arith}
 use native.Mathlib.Numerals.{add-one}
 use mathlib.Core.Path.{_≡_, refl, sym, ap, ap₂, _∙_}
@@ -9,7 +9,6 @@ use lib.ListN.{length, getD, take, drop, length-take, List·getD-eq-default, dro
 use lib.Seq.{drop-cons, getD-take}
 use lib.Dec.{eqb, leb, ltb}
 use borrow.Author.Tests.{eq-eqb, ne-eqb, eqb-true, eqb-false, le-leb, lt-leb, lt-ltb, le-ltb, leb-true, leb-false}
-use Rattle.wcsp.specs.Entry.{Entry}
 use Rattle.wcsp.specs.Entry.{Binding as Bound}
 use Rattle.words.specs.declared.Word.{Word}
 use Rattle.words.specs.declared.Word.the-variants.{Head, Size, Binding, Cost, Signs, Weight, Step, Easting, Northing, Count, Unknown}
@@ -28,12 +27,15 @@ pub size-some : (sizes : List ℕ) (n v r : ℕ) → v < n → r ≡ getD sizes 
 size-some sizes n v r h e = e ∙ sym (getD-take n sizes v 0 h)
 
 -- a variable with a size is known
-pub size-known : (sizes : List ℕ) (n v a : ℕ) → a < getD (take n sizes) v 0 → v < n
-size-known sizes n v a h = go (leb n v) refl
+pub known : (ds : List ℕ) (v a : ℕ) → a < getD ds v 0 → v < length ds
+known ds v a h = go (leb (length ds) v) refl
   where
-    go : (b : Bool) → leb n v ≡ b → v < n
-    go true e = let z = size-none sizes n v (leb-true n v e) in absurd (omega arith)
-    go false e = leb-false n v e
+    go : (b : Bool) → leb (length ds) v ≡ b → v < length ds
+    go true e = let z = List·getD-eq-default ds 0 (leb-true (length ds) v e) in absurd (omega arith)
+    go false e = leb-false (length ds) v e
+
+pub size-known : (sizes : List ℕ) (n v a : ℕ) → a < getD (take n sizes) v 0 → v < n
+size-known sizes n v a h = omega (arith, known (take n sizes) v a h, length-take n sizes)
 
 -- ---- one word
 

@@ -1,9 +1,9 @@
 -- A sheet's fault comes apart into that of its stations and that of its entries, and its answer is made from those of the phases.
-use Prim.Native.Nat.{ℕ, zero, suc, _+_, _-_, _*_, _%_, _≤_, _<_}
+use Prim.Native.Nat.{ℕ, zero, suc, _+_, _-_, _*_, _%_, _≤_}
 use native.Mathlib.Omega.{arith}
 use native.Mathlib.Decide.{decLe}
 use mathlib.Core.Path.{_≡_, refl, sym, ap, ap₂, _∙_}
-use mathlib.Core.Bool.{Bool, true, false, _&&_, cond, false≢true}
+use mathlib.Core.Bool.{Bool, true, false, _&&_, cond}
 use mathlib.Core.List.{List, [], _∷_, _++_, map, append-nil}
 use lib.ListN.{length, getD, take, drop, length-map, length-drop, drop-of-length-le}
 use lib.Seq.{append-snoc, drop-drop, drop-length}
@@ -14,13 +14,12 @@ use Rattle.words.specs.Meaning.{wordOf}
 use Rattle.input.specs.declared.Got.{Got}
 use Rattle.input.specs.declared.Got.the-variants.{Number, Fault}
 use Rattle.input.specs.declared.Stations.{Stations}
-use Rattle.input.specs.declared.SheetRead.{SheetRead}
 use Rattle.input.specs.Instance.{variablesIn, sizeIn, entriesFault, padded}
-use Rattle.input.specs.Sheet.{isEasting, isNorthing, legCount, sheetStationsFault, sheetFault, stationsFrom, behindStations, positionsOf, sheetSizes, entryWordsOf}
+use Rattle.input.specs.Sheet.{isEasting, isNorthing, legCount, sheetStationsFault, sheetFault, stationsFrom, behindStations, sheetSizes, entryWordsOf}
 use Rattle.input.specs.Phases.{nextOf, isNext, gotBy, goodPositions, goodStations, stationsRead}
 use Rattle.input.specs.Scan.{scanGot}
 use Rattle.input.specs.Calls.{refusedSheet, sheetCall}
-use Rattle.input.proofs.Sizes.{Sized, sized}
+use Rattle.input.proofs.Sizes.{sized}
 use Rattle.input.proofs.Located.{sizes-more, behind-more}
 use Rattle.input.proofs.Scanning.{got-fault, got-number}
 use Rattle.input.proofs.Validating.{Headed, headed, headed-bounds, headed-payload, headless, padded-length, padded-front}

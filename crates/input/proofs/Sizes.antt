@@ -1,24 +1,23 @@
 -- The stations of an instance: reading one size after another answers the sizes of all, and the fault of the whole comes apart into that of the stations and that of the entries.
-use Prim.Native.Nat.{ℕ, zero, suc, _+_, _-_, _*_, _≤_, _<_}
+use Prim.Native.Nat.{ℕ, zero, suc, _+_, _-_, _≤_, _<_}
 use native.Mathlib.Omega.{arith}
-use native.Mathlib.Numerals.{add-one}
-use mathlib.Core.Path.{_≡_, refl, sym, ap, ap₂, _∙_}
-use mathlib.Core.Bool.{Bool, true, false, _&&_, cond}
-use mathlib.Core.List.{List, [], _∷_, _++_, map, append-assoc, append-nil}
-use lib.ListN.{length, getD, take, drop, set, replicate}
+use mathlib.Core.Path.{_≡_, refl, sym, ap, _∙_}
+use mathlib.Core.Bool.{Bool, true, false, cond}
+use mathlib.Core.List.{List, [], _∷_, _++_, map, append-nil}
+use lib.ListN.{length, take, drop, set, replicate}
 use lib.Seq.{append-snoc, drop-drop}
-use lib.Dec.{eqb, leb}
-use borrow.Author.Tests.{eqb-false, ne-eqb, leb-true}
+use lib.Dec.{eqb}
+use borrow.Author.Tests.{eqb-false, ne-eqb}
 use Rattle.words.specs.declared.Word.{Word}
 use Rattle.words.specs.declared.Word.the-variants.{Head, Size, Binding, Cost, Signs, Weight, Step, Easting, Northing, Count, Unknown}
-use Rattle.words.specs.Layout.{payloadOf, sizeWord}
+use Rattle.words.specs.Layout.{payloadOf}
 use Rattle.words.specs.Meaning.{wordOf}
 use Rattle.words.proofs.Inverse.{size-inverse}
-use Rattle.input.specs.declared.Next.{Next}
 use Rattle.input.specs.declared.Got.{Got}
 use Rattle.input.specs.declared.Got.the-variants.{Number, Fault}
-use Rattle.input.specs.Instance.{maxValues, between, sizeIn, entriesFault, stationsFault, padded}
+use Rattle.input.specs.Instance.{maxValues, sizeIn, entriesFault, stationsFault}
 use Rattle.input.specs.Phases.{nextOf, numbered, gotBy, goodSizes, sizesRead, refusedStations}
+use Rattle.input.proofs.Reading.{limited}
 use Rattle.input.proofs.Filling.{Filling, filling-start, filling-step, filling-end}
 
 -- ---- a station word that was read
@@ -41,18 +40,10 @@ sized-of (w ∷ ws) d e = go (eqb (sizeIn (wordOf w)) 0) refl e
         sized l h
 
 -- a size is 1 to 8, and the whole payload of its word
-limited : (d k : ℕ) → cond (between 1 k maxValues) k 0 ≡ d → 1 ≤ d → (k ≡ d) × (k ≤ 8)
-limited d k e h = go (leb 1 k) (leb k 8) refl refl e
-  where
-    go : (a b : Bool) → leb 1 k ≡ a → leb k 8 ≡ b → cond (a && b) k 0 ≡ d → (k ≡ d) × (k ≤ 8)
-    go true true f g e = (e, leb-true k 8 g)
-    go true false f g e = absurd (omega arith)
-    go false b f g e = absurd (omega arith)
-
 size-word : (w : Word) (d : ℕ) → sizeIn w ≡ d → 1 ≤ d → (w ≡ Size d) × (d ≤ 8)
 unfolding sizeIn
 size-word (Head n) d e h = absurd (omega arith)
-size-word (Size k) d e h = let l = limited d k e h in (ap Size (l .0), omega arith)
+size-word (Size k) d e h = let l = limited maxValues d k e h in (ap Size (l .0), omega arith)
 size-word (Binding v a) d e h = absurd (omega arith)
 size-word (Cost c) d e h = absurd (omega arith)
 size-word (Signs k x) d e h = absurd (omega arith)

@@ -1,14 +1,14 @@
 -- An instance's answer, from those of its three phases: the head, the stations and the entries.
-use Prim.Native.Nat.{ℕ, zero, suc, _+_, _-_, _≤_, _<_, suc-le-suc}
+use Prim.Native.Nat.{ℕ, zero, suc, _+_, _-_, _≤_, suc-le-suc}
 use native.Mathlib.Omega.{arith}
 use native.Mathlib.Numerals.{add-one}
-use mathlib.Core.Path.{_≡_, refl, sym, ap, ap₂, _∙_}
-use mathlib.Core.Bool.{Bool, true, false, _&&_, cond, false≢true}
-use mathlib.Core.List.{List, [], _∷_, _++_, map}
-use lib.ListN.{length, getD, take, drop, replicate, length-append, length-replicate, length-map, length-drop}
-use lib.Seq.{drop-drop, length-take-le, take-append-seam}
-use lib.Dec.{eqb, leb}
-use borrow.Author.Tests.{eq-eqb, eqb-true, eqb-false, ne-eqb, leb-true}
+use mathlib.Core.Path.{_≡_, refl, sym, ap, _∙_}
+use mathlib.Core.Bool.{Bool, true, false, cond, false≢true}
+use mathlib.Core.List.{List, [], _∷_, map}
+use lib.ListN.{length, getD, take, drop, replicate, length-append, length-replicate, length-map}
+use lib.Seq.{length-take-le, take-append-seam}
+use lib.Dec.{eqb}
+use borrow.Author.Tests.{eqb-false, ne-eqb}
 use Rattle.words.specs.declared.Word.{Word}
 use Rattle.words.specs.declared.Word.the-variants.{Head, Size, Binding, Cost, Signs, Weight, Step, Easting, Northing, Count, Unknown}
 use Rattle.words.specs.Layout.{payloadOf}
@@ -17,11 +17,11 @@ use Rattle.words.proofs.Inverse.{head-inverse}
 use Rattle.input.specs.declared.Got.{Got}
 use Rattle.input.specs.declared.Got.the-variants.{Number, Fault}
 use Rattle.input.specs.declared.Stations.{Stations}
-use Rattle.input.specs.declared.Validated.{Validated}
-use Rattle.input.specs.Instance.{maxVariables, between, variablesIn, sizeIn, entriesFault, stationsFault, instanceFault, entriesFrom, sizesOf, entriesOf, padded}
+use Rattle.input.specs.Instance.{maxVariables, variablesIn, sizeIn, entriesFault, instanceFault, entriesFrom, sizesOf, entriesOf, padded}
 use Rattle.input.specs.Phases.{nextOf, numbered, gotBy, goodSizes, sizesRead}
 use Rattle.input.specs.Scan.{scanGot}
 use Rattle.input.specs.Calls.{refusedInstance, validateCall}
+use Rattle.input.proofs.Reading.{limited}
 use Rattle.input.proofs.Sizes.{stations-apart}
 use Rattle.input.proofs.Scanning.{got-fault, got-number}
 
@@ -31,17 +31,9 @@ use Rattle.input.proofs.Scanning.{got-fault, got-number}
 pub data Headed : List ℕ → ℕ → Type 0 where
   headed : {w n : ℕ} {ws : List ℕ} → 1 ≤ n → n ≤ 12 → variablesIn (wordOf w) ≡ n → payloadOf w ≡ n → Headed (w ∷ ws) n
 
-limited : (n k : ℕ) → cond (between 1 k maxVariables) k 0 ≡ n → 1 ≤ n → (k ≡ n) × (k ≤ 12)
-limited n k e h = go (leb 1 k) (leb k 12) refl refl e
-  where
-    go : (a b : Bool) → leb 1 k ≡ a → leb k 12 ≡ b → cond (a && b) k 0 ≡ n → (k ≡ n) × (k ≤ 12)
-    go true true f g e = (e, leb-true k 12 g)
-    go true false f g e = absurd (omega arith)
-    go false b f g e = absurd (omega arith)
-
 head-word : (w : Word) (n : ℕ) → variablesIn w ≡ n → 1 ≤ n → (w ≡ Head n) × (n ≤ 12)
 unfolding variablesIn
-head-word (Head k) n e h = let l = limited n k e h in (ap Head (l .0), omega arith)
+head-word (Head k) n e h = let l = limited maxVariables n k e h in (ap Head (l .0), omega arith)
 head-word (Size d) n e h = absurd (omega arith)
 head-word (Binding v a) n e h = absurd (omega arith)
 head-word (Cost c) n e h = absurd (omega arith)

@@ -1,7 +1,7 @@
 -- The calls on instances and sheets: answers for good and refused calls alike. A refusal has its number, its other fields 0.
-use Prim.Native.Nat.{ℕ, zero, suc, _+_, _-_}
+use Prim.Native.Nat.{ℕ, _-_}
 use mathlib.Core.Bool.{Bool, true, false, _&&_, cond}
-use mathlib.Core.List.{List, [], _∷_, _++_}
+use mathlib.Core.List.{List, [], _∷_}
 use lib.ListN.{length, replicate}
 use lib.Dec.{eqb, ltb}
 use Rattle.wcsp.specs.Entry.{cost}

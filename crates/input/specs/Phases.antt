@@ -1,8 +1,8 @@
--- What the readers of the words in front of the entries answer.
+-- What the readers of the words in front of the entries answer. These serve inner contracts alone; laws in proofs/ join them to the faults of Instance and Sheet.
 use Prim.Native.Nat.{ℕ, zero, suc, _+_, _-_, _*_}
 use mathlib.Core.Bool.{Bool, true, false, _&&_, cond}
-use mathlib.Core.List.{List, [], _∷_, _++_, map}
-use lib.ListN.{length, getD, take, drop, replicate}
+use mathlib.Core.List.{List, [], _∷_, map}
+use lib.ListN.{length, take, drop, replicate}
 use lib.Dec.{eqb}
 use Rattle.words.specs.declared.Word.{Word}
 use Rattle.words.specs.Layout.{payloadOf}
@@ -13,7 +13,7 @@ use Rattle.input.specs.declared.Next.the-variants.{Word as Found}
 use Rattle.input.specs.declared.Got.{Got}
 use Rattle.input.specs.declared.Got.the-variants.{Number, Fault}
 use Rattle.input.specs.declared.Stations.{Stations}
-use Rattle.input.specs.Instance.{variablesIn, sizeIn, padded}
+use Rattle.input.specs.Instance.{sizeIn, padded}
 use Rattle.input.specs.Sheet.{isEasting, isNorthing, stationsFrom, behindStations}
 
 -- the first word

@@ -2,6 +2,7 @@
 use crate::Got;
 use crate::Next;
 use crate::Stations;
+use crate::reader::word_at;
 use words::Coordinate;
 use words::Word;
 ghost use mathlib.Core.Path.{_≡_};
@@ -11,21 +12,11 @@ ghost use Rattle.input.specs.Instance.{variablesIn, sizeIn};
 ghost use Rattle.input.specs.Sheet.{isPlace, isEasting, isNorthing, legCount};
 ghost use Rattle.input.specs.Phases.{refusedStations, nextOf, gotBy, sizesRead, isNext, goodPositions, stationsRead};
 
-// The word at an index, by its kind.
-pub fn next_word(words: &[u32], at: usize) -> Next
-    ensures { λ r. ⌜ r ≡ nextOf (drop at (now (words .entry))) ⌝ }
-{
-    if words.len() <= at {
-        return Next::End;
-    }
-    Next::Word(words::read(words[at]))
-}
-
 // The number of variables that the head gives.
 pub fn read_head(words: &[u32]) -> Got
     ensures { λ r. ⌜ r ≡ gotBy 1 variablesIn (nextOf (now (words .entry))) ⌝ }
 {
-    let Next::Word(w) = next_word(words, 0) else {
+    let Next::Word(w) = word_at(words, 0) else {
         return Got::Fault(1);
     };
     let Word::Head(n) = w else {
@@ -44,7 +35,7 @@ pub fn read_head(words: &[u32]) -> Got
 pub fn read_size(words: &[u32], at: usize) -> Got
     ensures { λ r. ⌜ r ≡ gotBy 2 sizeIn (nextOf (drop at (now (words .entry)))) ⌝ }
 {
-    let Next::Word(w) = next_word(words, at) else {
+    let Next::Word(w) = word_at(words, at) else {
         return Got::Fault(2);
     };
     let Word::Size(d) = w else {
@@ -104,7 +95,7 @@ fn is_place(c: Coordinate) -> bool
 fn easting_at(words: &[u32], at: usize) -> bool
     ensures { λ r. ⌜ r ≡ isNext isEasting (nextOf (drop at (now (words .entry)))) ⌝ }
 {
-    let Next::Word(w) = next_word(words, at) else {
+    let Next::Word(w) = word_at(words, at) else {
         return false;
     };
     let Word::Easting(p) = w else {
@@ -116,7 +107,7 @@ fn easting_at(words: &[u32], at: usize) -> bool
 fn northing_at(words: &[u32], at: usize) -> bool
     ensures { λ r. ⌜ r ≡ isNext isNorthing (nextOf (drop at (now (words .entry)))) ⌝ }
 {
-    let Next::Word(w) = next_word(words, at) else {
+    let Next::Word(w) = word_at(words, at) else {
         return false;
     };
     let Word::Northing(p) = w else {

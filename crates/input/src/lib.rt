@@ -1,6 +1,7 @@
 // Instances and sheets, read in one pass: the fault nearest the front decides.
 mod entries;
 mod front;
+mod reader;
 
 ghost use mathlib.Core.Path.{_≡_};
 ghost use Rattle.input.specs.Calls.{validateCall, sheetCall, costCall, refusedInstance, refusedSheet, faultIn};

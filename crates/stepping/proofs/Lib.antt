@@ -1,3 +1,4 @@
+-- The laws of this crate that belong to no one function.
 pub mod Places
 pub mod Writes
 pub mod Agreement

@@ -1,4 +1,4 @@
--- The words of a table: head, sizes, row count, rows, and zeros to the end of the slice. The row width, the weight limit and the capacity stand here alone.
+-- The words of a table: head, sizes, row count, rows, and zeros to the end of the slice. The weight limit and the capacity stand here alone; a row's five words stand in crate rows.
 use Prim.Native.Nat.{ℕ, zero, suc, _+_, _-_, _*_, _/_, min}
 use mathlib.Core.Bool.{Bool, false, _||_}
 use mathlib.Core.List.{List, [], _∷_, _++_, map}

@@ -1,3 +1,5 @@
+-- The laws of this crate that belong to no one function.
+mod Witnesses
 pub mod Linear
 pub mod Signs
 pub mod Lists
@@ -26,3 +28,4 @@ pub mod AsWritten
 pub mod TooHeavy
 pub mod Settled
 pub mod Cleared
+pub mod Least

@@ -1,4 +1,4 @@
--- What is proved of the definitions: each statement has a name here and its proof in proofs/, under that name in small letters.
+-- What is proved of the definitions: each statement has a name here and its proof in proofs/, under that name with a small first letter.
 use Prim.Native.Nat.{ℕ, zero, suc, _+_, _*_, _<_, _≤_}
 use mathlib.Core.Path.{_≡_}
 use mathlib.Core.Logic.{_⊎_, _↔_}
@@ -131,3 +131,8 @@ pub record Optimal (ds : List ℕ) (rs : List Row) : Type 0 where
 
 abbrev pub Optimality : Type 0
 Optimality = (ds : List ℕ) (rs : List Row) → AllPositive ds → ValidRows ds rs → nextPair ds rs ≡ none → Optimal ds rs
+
+-- from the encoding of an instance, by any permitted steps, to rows with no pair left: the empty row's weight is the least cost
+abbrev pub SaturatedIsLeast : Type 0
+SaturatedIsLeast = (ds : List ℕ) (es : List Entry) (prs : List Pair) (rs′ : List Row) → AllPositive ds → WellFormed ds es
+    → Replays ds (encoded ds es) prs rs′ → nextPair ds rs′ ≡ none → LeastCost ds es (emptyWeight (length ds) rs′)

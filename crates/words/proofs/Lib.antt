@@ -1,3 +1,4 @@
+-- The laws of this crate that belong to no one function.
 pub mod Reading
 pub mod Inverse
 pub mod Packing

@@ -1,8 +1,6 @@
 -- `cost` refuses what `validate` refuses and bytes that are no assignment; else the fold over the words is the sum over the entries.
 use borrow.Author.Needs.{needs}
 use borrow.Author.Tests.{not-true, not-false}
-use native.Mathlib.Omega.{arith}
-use mathlib.Core.Path.{sym, ap, _∙_}
 use Rattle.input.proofs.Pricing.{cost-refused, few-variables, cost-small, cost-not, cost-is}
 use Rattle.input.proofs.cost.Statement.{statement}
 use Rattle.input.proofs.cost.Tie as tie

@@ -1,6 +1,5 @@
 -- `read_sheet` answers for the whole from the answers of its phases: one law for each way out.
 use borrow.Author.Needs.{needs}
-use native.Mathlib.Omega.{arith}
 use mathlib.Core.Path.{sym, ap, _∙_}
 use Rattle.input.specs.Calls.{refusedSheet, faultIn}
 use Rattle.input.proofs.Validating.{headed-of, headed-bounds}

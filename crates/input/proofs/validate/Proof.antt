@@ -1,6 +1,5 @@
 -- `validate` answers for the whole from the answers of its phases: one law for each way out.
 use borrow.Author.Needs.{needs}
-use native.Mathlib.Omega.{arith}
 use mathlib.Core.Path.{sym, ap, _∙_}
 use Rattle.input.specs.Calls.{refusedInstance, faultIn}
 use Rattle.input.proofs.Validating.{headed-of, headed-bounds, no-head, sizes-broken, scan-broken, scan-good}

@@ -3,7 +3,7 @@ use Prim.Native.Nat.{_≤_, _-_}
 use borrow.Author.Needs.{needs}
 use native.Mathlib.Omega.{arith}
 use mathlib.Core.Path.{_≡_, refl, sym, _∙_}
-use lib.ListN.{length, take, drop}
+use lib.ListN.{take, drop}
 use Rattle.input.specs.Calls.{isAssignment}
 use Rattle.input.proofs.Costing.{assignment-long, assignment-high, assignment-more, assignment-end}
 use Rattle.input.proofs.entries.is_assignment.Statement.{statement}

@@ -1,7 +1,6 @@
 -- `scan_binding` does to the scan what a binding does: one law for each way out.
 use borrow.Author.Needs.{needs}
 use native.Mathlib.Omega.{arith}
-use lib.ListN.{take}
 use Rattle.input.proofs.Scanning.{size-known, binding-low, binding-high, binding-good}
 use Rattle.input.proofs.entries.scan_binding.Statement.{statement}
 use Rattle.input.proofs.entries.scan_binding.Tie as tie
@@ -10,7 +9,8 @@ returns : tie.Need-returns
 returns c = binding-low _ _ _ _ _ (c .if1 .taken)
 
 returns-2 : tie.Need-returns-2
-returns-2 c = binding-high _ _ _ _ _ _ (c .before .size-of .ensures) (c .before .before .if1 .left) (c .if2 .taken)
+returns-2 c =
+    binding-high _ (c .before .before .before .args .from) _ (c .before .before .before .args .v) (c .before .before .before .args .a) (c .before .size-of .result) (c .before .size-of .ensures) (omega arith) (omega arith)
 
 add-t8 : tie.Need-add-t8
 add-t8 c =
@@ -19,7 +19,8 @@ add-t8 c =
     record { fits = omega arith }
 
 returns-3 : tie.Need-returns-3
-returns-3 c = binding-good _ _ _ _ _ _ (c .before .size-of .ensures) (c .before .before .if1 .left) (c .if2 .left)
+returns-3 c =
+    binding-good _ (c .before .before .before .args .from) _ (c .before .before .before .args .v) (c .before .before .before .args .a) (c .before .size-of .result) (c .before .size-of .ensures) (omega arith) (omega arith)
 
 pub scan-binding-spec : {M : Type 1} → statement M
 scan-binding-spec =

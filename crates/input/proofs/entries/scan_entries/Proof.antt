@@ -1,7 +1,6 @@
 -- `scan_entries` answers for the words from its index on: the answer is that of the words still to come, from the state that the scan has come to.
 use Prim.Native.Nat.{_-_}
 use borrow.Author.Needs.{needs}
-use native.Mathlib.Omega.{arith}
 use mathlib.Core.Path.{_≡_, refl, sym, ap, _∙_}
 use lib.ListN.{length, take, drop}
 use Rattle.input.specs.Scan.{behindOf, stopIn, scanGot}

@@ -3,7 +3,7 @@ use Prim.Native.Nat.{_+_, _*_, _-_, _≤_}
 use borrow.Author.Needs.{needs}
 use native.Mathlib.Omega.{arith}
 use mathlib.Core.Path.{_≡_}
-use lib.ListN.{length, take, drop}
+use lib.ListN.{take, drop}
 use Rattle.input.specs.Sheet.{legCount}
 use Rattle.input.proofs.Legs.{product-small, legs-more, legs-end}
 use Rattle.input.proofs.front.count_legs.Statement.{statement}

@@ -1,23 +1,22 @@
 -- `easting_at` tells whether the next word is an easting within the range: by the word's kind, then by its payload.
 use borrow.Author.Needs.{needs}
-use mathlib.Core.Path.{refl}
 use Rattle.input.proofs.Others.{no-easting}
 use Rattle.input.proofs.Positions.{is-end, is-found, easting-fits, easting-place}
 use Rattle.input.proofs.front.easting_at.Statement.{statement}
 use Rattle.input.proofs.front.easting_at.Tie as tie
 
 returns : tie.Need-returns
-returns c = is-end _ _ _ (c .before .before .next-word .ensures) (c .enum-told .given .1)
+returns c = is-end _ _ _ (c .before .before .word-at .ensures) (c .enum-told .given .1)
 
 returns-2 : tie.Need-returns-2
-returns-2 c = is-found _ _ _ (c .before .before .before .before .next-word .ensures) _ _ (c .before .before .w .given .1) (no-easting _ (c .match2 .keys2))
+returns-2 c = is-found _ _ _ (c .before .before .before .before .word-at .ensures) _ _ (c .before .before .w .given .1) (no-easting _ (c .match2 .keys2))
 
 place-requires : tie.Need-place-requires
-place-requires c κs = easting-fits _ _ _ _ (c .before .before .before .before .before .before .next-word .ensures) (c .before .before .before .before .w .given .1) (c .before .w2 .given .1)
+place-requires c κs = easting-fits _ _ _ _ (c .before .before .before .before .before .before .word-at .ensures) (c .before .before .before .before .w .given .1) (c .before .w2 .given .1)
 
 returns-3 : tie.Need-returns-3
 returns-3 c =
-    is-found _ _ _ (c .before .before .before .before .before .before .before .before .next-word .ensures) _ _ (c .before .before .before .before .before .before .w .given .1)
+    is-found _ _ _ (c .before .before .before .before .before .before .before .before .word-at .ensures) _ _ (c .before .before .before .before .before .before .w .given .1)
     (easting-place _ _ _ _ (c .before .before .before .w2 .given .1) (c .before .place .ensures) (c .is-place .ensures))
 
 pub easting-at-spec : {M : Type 1} → statement M

@@ -3,7 +3,7 @@ use Prim.Native.Nat.{_-_}
 use borrow.Author.Needs.{needs}
 use native.Mathlib.Omega.{arith}
 use mathlib.Core.Path.{sym, _∙_}
-use Rattle.input.proofs.Sizes.{SizesSoFar, Sized, sized-of, sized-bounds, sizes-start, sizes-fault, sizes-more, sizes-end}
+use Rattle.input.proofs.Sizes.{SizesSoFar, sized-of, sized-bounds, sizes-start, sizes-fault, sizes-more, sizes-end}
 use Rattle.input.proofs.front.read_sizes.Statement.{statement}
 use Rattle.input.proofs.front.read_sizes.Tie as tie
 

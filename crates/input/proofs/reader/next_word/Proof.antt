@@ -1,8 +1,8 @@
 -- `next_word` answers the first of the words from its index on: none at the end, else what the word there says.
 use borrow.Author.Needs.{needs}
 use Rattle.input.proofs.Reading.{next-end, next-found}
-use Rattle.input.proofs.front.next_word.Statement.{statement}
-use Rattle.input.proofs.front.next_word.Tie as tie
+use Rattle.input.proofs.reader.next_word.Statement.{statement}
+use Rattle.input.proofs.reader.next_word.Tie as tie
 
 returns : tie.Need-returns
 returns c = next-end _ _ (c .if1 .taken)

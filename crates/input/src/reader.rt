@@ -1,0 +1,41 @@
+// A reader that carries the caller's words and how far it has come. Its functions are thin: the work is `next_word`'s, on the slice and the number.
+use crate::Next;
+ghost use mathlib.Core.Path.{_≡_};
+ghost use lib.ListN.{drop};
+ghost use Rattle.input.specs.Phases.{nextOf};
+
+pub struct Reader<'a> {
+    pub words: &'a [u32],
+    pub at: usize,
+}
+
+// The word at an index, by its kind.
+fn next_word(words: &[u32], at: usize) -> Next
+    ensures { λ r. ⌜ r ≡ nextOf (drop at (now (words .entry))) ⌝ }
+{
+    if words.len() <= at {
+        return Next::End;
+    }
+    Next::Word(words::read(words[at]))
+}
+
+// A reader that has come up to an index.
+pub fn come_to<'a>(words: &'a [u32], at: usize) -> Reader<'a>
+    ensures { λ r. ⌜ (r .words ≡ words .entry) × (r .at ≡ at) ⌝ }
+{
+    Reader { words, at }
+}
+
+// The word that the reader has come to.
+pub fn next<'a>(r: Reader<'a>) -> Next
+    ensures { λ x. ⌜ x ≡ nextOf (drop (r .entry .at) (now (r .entry .words))) ⌝ }
+{
+    next_word(r.words, r.at)
+}
+
+// The word at an index, through a reader.
+pub fn word_at(words: &[u32], at: usize) -> Next
+    ensures { λ x. ⌜ x ≡ nextOf (drop at (now (words .entry))) ⌝ }
+{
+    next(come_to(words, at))
+}
