@@ -18,9 +18,9 @@ saturatedIsLeast ds es prs rs positive formed replays none =
       assignment = rebuilt ds rs;
       inRange = best .inRange;
       attained =
-        sym (encodingExact ds es (rebuilt ds rs) formed (best .inRange)) ∙ sym (kept .weights (rebuilt ds rs) (best .inRange))
-        ∙ best .attained;
+          sym (encodingExact ds es (rebuilt ds rs) formed (best .inRange)) ∙ sym (kept .weights (rebuilt ds rs) (best .inRange))
+          ∙ best .attained;
       least =
-        λ p h.
-        subst (λ (n : ℕ). emptyWeight (length ds) rs ≤ n) (kept .weights p h ∙ encodingExact ds es p formed h) (best .least p h);
+          λ p h.
+          subst (λ (n : ℕ). emptyWeight (length ds) rs ≤ n) (kept .weights p h ∙ encodingExact ds es p formed h) (best .least p h);
     }

@@ -15,9 +15,10 @@ same-length : tie.Need-same-length
 same-length c = search needs
 
 returns : tie.Need-returns
-returns c =
-    (ap (λ a. a .number) (c .before .before .before .before .cost .ensures),
-    noted-is _ _ _ _ (ap (λ a. a .value) (c .before .before .before .before .cost .ensures)) (c .before .before .note .ensures))
+returns c = (
+  ap (λ a. a .number) (c .before .before .before .before .cost .ensures),
+  noted-is _ _ _ _ (ap (λ a. a .value) (c .before .before .before .before .cost .ensures)) (c .before .before .note .ensures),
+)
 
 pub gotalhim-cost-spec : {M : Type 1} → statement M
 gotalhim-cost-spec = tie.close (tie.spec cost-requires note-requires same-length returns)

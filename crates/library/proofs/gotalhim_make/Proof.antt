@@ -18,10 +18,11 @@ same-length-2 : tie.Need-same-length-2
 same-length-2 c = search needs
 
 returns : tie.Need-returns
-returns c =
-    (ap (λ a. a .number) (c .before .before .before .before .before .before .make .ensures .0),
-    c .before .before .before .before .before .before .make .ensures .1,
-    noted-is _ _ _ _ (ap (λ a. a .value) (c .before .before .before .before .before .before .make .ensures .0)) (c .before .before .note .ensures))
+returns c = (
+  ap (λ a. a .number) (c .before .before .before .before .before .before .make .ensures .0),
+  c .before .before .before .before .before .before .make .ensures .1,
+  noted-is _ _ _ _ (ap (λ a. a .value) (c .before .before .before .before .before .before .make .ensures .0)) (c .before .before .note .ensures),
+)
 
 pub gotalhim-make-spec : {M : Type 1} → statement M
 gotalhim-make-spec =
