@@ -1,0 +1,102 @@
+//! Plans one sheet for the benchmark. `driver WHAT SHEET` prints one line; WHAT is `shape`, the form of the run,
+//! `plain` or `proved`, one run whose instructions are counted, or `times`, the least time of either in nanoseconds.
+
+#![allow(unknown_lints, unexpected_cfgs)]
+
+mod planning;
+#[cfg(proved)]
+mod proved;
+mod unproved;
+
+use std::env;
+use std::fs;
+use std::time::Instant;
+
+use planning::{planned, Buffers, Calls, Planned, STEP_LIMIT};
+use unproved::Plain;
+
+/// How often a run is repeated to find its least time.
+const REPEATS: usize = 9;
+
+/// How many steps lie between two looks at the number of rows.
+const STRIDE: usize = 50;
+
+/// The function whose instructions are counted for the plain implementation.
+#[no_mangle]
+#[inline(never)]
+pub extern "C" fn bench_plain(sheet: &Vec<u32>, buffers: &mut Buffers) -> bool {
+    planned::<Plain>(sheet, buffers).number == 0
+}
+
+/// The function whose instructions are counted for the proved library.
+#[cfg(proved)]
+#[no_mangle]
+#[inline(never)]
+pub extern "C" fn bench_proved(sheet: &Vec<u32>, buffers: &mut Buffers) -> bool {
+    planned::<proved::Proved>(sheet, buffers).number == 0
+}
+
+fn read_sheet(path: &str) -> Vec<u32> {
+    let bytes = fs::read(path).expect("the sheet can be read");
+    bytes.chunks_exact(4).map(|four| u32::from_le_bytes([four[0], four[1], four[2], four[3]])).collect()
+}
+
+fn rows_in(table: &[u32]) -> u32 {
+    let variables = plain::words::payload(table[0]) as usize;
+    plain::words::payload(table[variables + 1])
+}
+
+/// The rows of the encoding, the most rows seen and the rows at the end.
+fn rows_on_the_way(sheet: &[u32]) -> (u32, u32, u32) {
+    let mut buffers = Buffers::new();
+    let (_, written) = Plain::make(sheet, &mut buffers.instance);
+    Plain::encode(&buffers.instance[..written as usize], &mut buffers.table);
+    let first = rows_in(&buffers.table);
+    let mut most = first;
+    for _ in 0..STEP_LIMIT / STRIDE {
+        Plain::run(&mut buffers.table, STRIDE, &mut buffers.derivation);
+        most = most.max(rows_in(&buffers.table));
+    }
+    (first, most, rows_in(&buffers.table))
+}
+
+/// Outcome, steps, bound, and the cost of the assignment found.
+fn print_shape(sheet: &[u32]) {
+    let mut buffers = Buffers::new();
+    let Planned { number, outcome, steps, bound, assignment } = planned::<Plain>(sheet, &mut buffers);
+    let (_, written) = Plain::make(sheet, &mut buffers.instance);
+    let variables = plain::words::payload(sheet[0]) as usize;
+    let cost = plain::cost(&buffers.instance[..written as usize], &assignment[..variables]).expect("an assignment");
+    let (first, most, last) = rows_on_the_way(sheet);
+    println!("{} {} {} {} {} {} {} {}", number, outcome, steps, bound, cost, first, most, last);
+}
+
+fn least_time<C: Calls>(sheet: &[u32]) -> u128 {
+    let mut buffers = Buffers::new();
+    let times = (0..REPEATS).map(|_| {
+        let start = Instant::now();
+        planned::<C>(sheet, &mut buffers);
+        start.elapsed().as_nanos()
+    });
+    times.min().expect("at least one run")
+}
+
+fn print_times(sheet: &[u32]) {
+    print!("{}", least_time::<Plain>(sheet));
+    #[cfg(proved)]
+    print!(" {}", least_time::<proved::Proved>(sheet));
+    println!();
+}
+
+fn main() {
+    let arguments: Vec<String> = env::args().skip(1).collect();
+    let sheet = read_sheet(&arguments[1]);
+    match arguments[0].as_str() {
+        "shape" => print_shape(&sheet),
+        "times" => print_times(&sheet),
+        "plain" => println!("{}", bench_plain(&sheet, &mut Buffers::new())),
+        #[cfg(proved)]
+        "proved" => println!("{}", bench_proved(&sheet, &mut Buffers::new())),
+        what => panic!("no such figure: {}", what),
+    }
+}

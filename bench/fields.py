@@ -1,0 +1,74 @@
+#!/usr/bin/env python3
+"""Writes the benchmark's sheets, always the same ones, to the folder given: a file NAME.sheet of words for each."""
+
+import random
+import sys
+from pathlib import Path
+from typing import NamedTuple
+
+sys.dont_write_bytecode = True
+sys.path.insert(0, str(Path(__file__).resolve().parent.parent / "tests" / "reference"))
+
+from reference import fields
+
+
+class Field(NamedTuple):
+    name: str
+    variables: int
+    values: int
+    width: int          # of the square with the places, in centimetres
+    seed: int = 1
+    paired: float = 0.0     # share of the pairs of values of neighbouring variables that have a cost
+    far: float = 0.0        # the same for variables that are `reach` apart
+    reach: int = 0
+    ends: str = "done"      # in the program's table, within its step limit
+
+
+FIELDS = [
+    Field("4x3", 4, 3, 30_000, paired=0.2),
+    Field("4x8", 4, 8, 30_000, paired=0.1),
+    Field("5x5", 5, 5, 30_000, paired=0.1),
+    Field("6x4", 6, 4, 30_000, paired=0.2),
+    Field("6x8", 6, 8, 30_000, paired=0.1),
+    Field("8x3", 8, 3, 40_000, paired=0.2),
+    Field("8x6", 8, 6, 30_000, seed=2),
+    Field("10x5", 10, 5, 50_000, paired=0.1),
+    Field("10x7", 10, 7, 50_000),
+    Field("10x3-far", 10, 3, 50_000, paired=0.1, far=0.1, reach=4),
+    Field("12x3", 12, 3, 50_000, paired=0.2),
+    Field("12x6", 12, 6, 50_000, paired=0.1),
+    Field("12x8", 12, 8, 50_000, paired=0.1, ends="paused"),
+    Field("12x3-far", 12, 3, 50_000, paired=0.1, far=0.3, reach=6, ends="full"),
+]
+
+
+def sheet_of(field):
+    rng = random.Random(f"{field.variables}x{field.values} {field.seed}")
+    places = [[(rng.randrange(field.width), rng.randrange(field.width)) for _ in range(field.values)]
+              for _ in range(field.variables)]
+    entries = single_costs(rng, field) + paired_costs(rng, field, 1, field.paired)
+    if field.reach:
+        entries += paired_costs(rng, field, field.reach, field.far)
+    return fields.sheet(places, entries)
+
+
+def single_costs(rng, field):
+    return [([(variable, value)], rng.randint(1, 300))
+            for variable in range(field.variables) for value in range(field.values)]
+
+
+def paired_costs(rng, field, apart, share):
+    return [([(variable, value), (variable + apart, other)], rng.randint(1, 100))
+            for variable in range(field.variables - apart)
+            for value in range(field.values) for other in range(field.values)
+            if rng.random() < share]
+
+
+def write_sheets(folder):
+    folder.mkdir(parents=True, exist_ok=True)
+    for field in FIELDS:
+        (folder / (field.name + ".sheet")).write_bytes(fields.as_bytes(sheet_of(field)))
+
+
+if __name__ == "__main__":
+    write_sheets(Path(sys.argv[1]))

@@ -1,0 +1,72 @@
+"""Builds the benchmark's driver and takes its figures: steps, rows, instructions and times of one sheet."""
+
+import os
+import re
+import shutil
+import subprocess
+from pathlib import Path
+from typing import NamedTuple
+
+BENCH = Path(__file__).resolve().parent
+ROOT = BENCH.parent
+BUILT = ROOT / "target" / "bench"
+DRIVER = BUILT / "driver"
+OUTCOMES = ["done", "paused", "refused"]
+
+
+class Shape(NamedTuple):
+    """The form of a run: how it ended, its steps, and the most rows seen."""
+    ended: str
+    steps: int
+    rows: int
+    bound: int
+    cost: int           # of the assignment found, where the run is done
+
+
+class Figures(NamedTuple):
+    instructions: int
+    nanoseconds: int
+
+
+def proved_library():
+    """The archive with the proved library, which `rt staticlib library` builds; None where there is none."""
+    archive = Path(os.environ.get("GOTALHIM_LIBRARY", ROOT / "target" / "staticlib" / "liblibrary.a")).resolve()
+    return archive if archive.exists() else None
+
+
+def build_driver(library):
+    BUILT.mkdir(parents=True, exist_ok=True)
+    subprocess.run([BENCH / "plain" / "build"], check=True)
+    command = ["rustc", "-O", "--edition", "2021", BENCH / "driver.rs",
+               "--extern", f"plain={ROOT / 'target' / 'plain' / 'libplain.rlib'}", "-o", DRIVER]
+    if library:
+        command += ["--cfg", "proved", "-C", f"link-arg={library}"]
+    subprocess.run(command, check=True)
+
+
+def driven(what, sheet):
+    done = subprocess.run([DRIVER, what, sheet], check=True, capture_output=True, text=True)
+    return [int(part) for part in done.stdout.split()]
+
+
+def shape_of(sheet):
+    number, outcome, steps, bound, cost, _first, most, _last = driven("shape", sheet)
+    ended = "full" if number == 12 else OUTCOMES[outcome]
+    return Shape(ended, steps, most, bound, cost)
+
+
+def instructions(implementation, sheet):
+    """Instructions from the sheet's words to the plan, as valgrind counts them; 0 where it is not installed."""
+    if not shutil.which("valgrind"):
+        return 0
+    done = subprocess.run(["valgrind", "--tool=callgrind", "--callgrind-out-file=/dev/null",
+                           f"--toggle-collect=bench_{implementation}", DRIVER, implementation, sheet],
+                          check=True, capture_output=True, text=True)
+    return int(re.search(r"Collected : (\d+)", done.stderr).group(1))
+
+
+def figures_of(implementations, sheet):
+    """Instructions and least time of each implementation; the times are taken in one process."""
+    times = driven("times", sheet)
+    return [Figures(instructions(implementation, sheet), nanoseconds)
+            for implementation, nanoseconds in zip(implementations, times)]

@@ -1,0 +1,82 @@
+"""Each call as the line of numbers that the plain program reads, with the answer of the reference."""
+
+from typing import NamedTuple
+
+import reference
+from reference.answers import BAD_CLAIM, GOOD, Refused
+from reference.inputs import cost_of, in_range, read_instance
+from reference.tables import read_table
+
+ALL_NUMBERS = list(range(14))
+OUTCOMES = {"done": 0, "paused": 1, "refused": 2}
+
+
+class Call(NamedTuple):
+    name: str
+    line: str
+    expected: list
+
+
+def sliced(elements):
+    return [len(elements)] + list(elements)
+
+
+def call(name, taken, expected):
+    """The numbers taken and expected are lists; a slice stands in them behind its length."""
+    return Call(name, " ".join(map(str, [name] + taken)), expected)
+
+
+def make(sheet, target):
+    made = reference.make_instance(sheet, target)
+    return call("make", sliced(sheet) + sliced(target), [made.number, made.written] + sliced(made.target))
+
+
+def encode(instance, table):
+    encoded = reference.encode(instance, table)
+    rows = len(read_table(encoded.table).rows) if encoded.number == GOOD else 0
+    return call("encode", sliced(instance) + sliced(table), [encoded.number, rows] + sliced(encoded.table))
+
+
+def step(table):
+    stepped = reference.step_call(table)
+    done = int(stepped.outcome == "done")
+    return call("step", sliced(table), [stepped.number, done, stepped.word] + sliced(stepped.table))
+
+
+def run(table, limit, derivation):
+    ran = reference.run_call(table, limit, derivation)
+    fields = [ran.number, OUTCOMES[ran.outcome], ran.steps, ran.bound]
+    return call("run", sliced(table) + [limit] + sliced(derivation),
+                fields + sliced(ran.table) + sliced(ran.derivation))
+
+
+def plan(table, target):
+    planned = reference.plan_call(table, target)
+    return call("plan", sliced(table) + sliced(target), [planned.number, 0] + sliced(planned.target))
+
+
+def check(instance, derivation, assignment, claimed, table):
+    checked = reference.check_call(instance, derivation, assignment, claimed, table)
+    taken = sliced(instance) + sliced(derivation) + sliced(assignment) + [claimed] + sliced(table)
+    return call("check", taken, [checked.number, checked.steps] + sliced(checked.table))
+
+
+def readout(sheet, assignment, variable, easting, northing):
+    answer = reference.readout_call(sheet, assignment, variable, easting, northing)
+    taken = sliced(sheet) + sliced(assignment) + [variable, easting, northing]
+    return call("readout", taken, [answer.number, answer.metres])
+
+
+def cost(instance, assignment):
+    return call("cost", sliced(instance) + sliced(assignment), cost_answer(instance, assignment))
+
+
+def cost_answer(instance, assignment):
+    """The cost of an assignment: 1 to 5, then 7."""
+    try:
+        read = read_instance(instance)
+    except Refused as refusal:
+        return [refusal.number, 0]
+    if not in_range(read.sizes, assignment):
+        return [BAD_CLAIM, 0]
+    return [GOOD, cost_of(read.entries, assignment)]

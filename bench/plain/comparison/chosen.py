@@ -1,0 +1,55 @@
+"""Chosen inputs that random ones hardly meet: limits reached exactly, and two faults at once."""
+
+import calls
+from reference import fields, words
+from reference.limits import MAX_ENTRIES, MAX_ROWS, MAX_WEIGHT
+from reference.tables import Row, table_words
+
+
+def chosen_calls():
+    return entry_calls() + full_calls() + faulty_tables() + heavy_and_full() + claim_calls()
+
+
+def entry_calls():
+    """As many entries as are allowed, one more, and one more whose cost or binding is faulty."""
+    most = fields.instance([2], [([(0, 0)], 1)] * MAX_ENTRIES)
+    behind = [[], [words.cost(0)], [words.cost(65_536)], [words.binding(0, 2), words.cost(65_536)]]
+    return [calls.encode(most + more, [0] * 20) for more in behind]
+
+
+def full_calls():
+    """Steps in tables that they fill to the last row or beyond, and a table with one row too many."""
+    made = []
+    for fill, room in [(MAX_ROWS - 3, MAX_ROWS), (MAX_ROWS - 3, MAX_ROWS + 3), (MAX_ROWS - 2, MAX_ROWS + 3),
+                       (MAX_ROWS - 1, MAX_ROWS + 3)]:
+        rows = [Row((1, 0, 0), 1), Row((2, 1, 0), 1)]
+        rows += [Row((0, 1 + at // 254, 1 + at % 254), 1) for at in range(fill)]
+        made.append(calls.step(table_words((4, 8, 8), rows, fields.table_length(3, room))))
+    return made
+
+
+def faulty_tables():
+    """Two rows of equal signs, and each word behind the last whole row."""
+    twice = fields.table([3, 3], "1,1:1 2,0:1 1,1:2", fields.table_length(2, 3))
+    good = fields.table([3, 3], "1,1:1 2,0:1", fields.table_length(2, 2, spare=4))
+    spare = [good[:at] + [1] + good[at + 1:] for at in range(len(good) - 4, len(good))]
+    return [make for table in [twice, *spare]
+            for make in (calls.step(table), calls.run(table, 5, [0] * 5), calls.plan(table, [0] * 2))]
+
+
+def heavy_and_full():
+    """A step that would make a row too heavy and need a row too many."""
+    made = []
+    for weight in (MAX_WEIGHT - 1, MAX_WEIGHT):
+        for room in (3, 4):
+            table = fields.table([3, 3], f"1,1:1 2,0:2 0,1:{weight}", fields.table_length(2, room))
+            made += [calls.step(table), calls.run(table, 5, [0] * 5)]
+    return made
+
+
+def claim_calls():
+    """The costs 0 to 3 of a field of least cost 1, and the same with a high bit."""
+    instance = fields.instance([2], [([(0, 0)], 3), ([(0, 1)], 1)])
+    derivation = [words.step(0, 0, 1)]
+    return [calls.check(instance, derivation, [value], claimed + high, [0] * 20)
+            for value in range(2) for claimed in range(4) for high in (0, 1 << 28, 1 << 32, 1 << 63)]

@@ -1,0 +1,9 @@
+//! The limits of every format, in one place.
+
+pub const MAX_VARIABLES: usize = 12; // document 01: stations of a field
+pub const MAX_SIZE: u32 = 8; // document 01: spots of a station
+pub const MAX_COST: u32 = 65_535;
+pub const MAX_ENTRIES: usize = 4_096;
+pub const MAX_WEIGHT: u32 = 268_435_455;
+pub const MAX_COORDINATE: i32 = 1_000_000;
+pub const MAX_ROWS: usize = 4_096;

@@ -1,0 +1,58 @@
+/* Plans a little field: two variables, the second with a near value that has a cost and a far one that has none. */
+#include <stdio.h>
+
+#include "gotalhim.h"
+
+enum { INSTANCE_WORDS = 100, TABLE_WORDS = 100, STEPS = 50, VARIABLES = 2 };
+
+static uint32_t word(uint32_t kind, int32_t payload)
+{
+    return kind << 28 | ((uint32_t)payload & 0x0FFFFFFF);
+}
+
+static int refused(const char *call, uint32_t number)
+{
+    if (number != 0)
+        printf("%s: refused with %u\n", call, (unsigned)number);
+    return number != 0;
+}
+
+/* Writes the sheet and returns its length. */
+static size_t write_sheet(uint32_t *sheet)
+{
+    const uint32_t words[] = {
+        word(1, VARIABLES),
+        word(2, 1), word(8, 0), word(9, 0),                               /* variable 0 at (0, 0) */
+        word(2, 2), word(8, 300), word(9, 400), word(8, 600), word(9, 800), /* variable 1 at 5 m or at 10 m */
+        word(3, 1 << 8 | 0), word(4, 9),                                  /* its value 0 costs 9 */
+    };
+    size_t length = sizeof words / sizeof words[0];
+    for (size_t at = 0; at < length; at++)
+        sheet[at] = words[at];
+    return length;
+}
+
+int main(void)
+{
+    uint32_t sheet[20], instance[INSTANCE_WORDS], table[TABLE_WORDS], derivation[STEPS];
+    uint64_t written, rows, ran[3], replayed, metres;
+    uint8_t plan[VARIABLES];
+    size_t length = write_sheet(sheet);
+
+    if (refused("make", gotalhim_make(sheet, length, instance, INSTANCE_WORDS, &written, 1))
+        || refused("encode", gotalhim_encode(instance, written, table, TABLE_WORDS, &rows, 1))
+        || refused("run", gotalhim_run(table, TABLE_WORDS, STEPS, derivation, STEPS, ran, 3))
+        || refused("plan", gotalhim_plan(table, TABLE_WORDS, plan, VARIABLES)))
+        return 1;
+    printf("cost %u after %u steps: values %u and %u\n",
+           (unsigned)ran[2], (unsigned)ran[1], (unsigned)plan[0], (unsigned)plan[1]);
+
+    if (refused("check", gotalhim_check(instance, written, derivation, ran[1], plan, VARIABLES, ran[2],
+                                        table, TABLE_WORDS, &replayed, 1))
+        || refused("readout", gotalhim_readout(sheet, length, plan, VARIABLES, 1, word(8, 0), word(9, 100),
+                                               &metres, 1)))
+        return 1;
+    printf("the derivation is accepted with %u steps\n", (unsigned)replayed);
+    printf("%u metres from (0, 1 m) to the next sample\n", (unsigned)metres);
+    return 0;
+}

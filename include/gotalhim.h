@@ -1,0 +1,148 @@
+/* The planner's calls for C: reading a field, planning it step by step, and checking a derivation. */
+#ifndef GOTALHIM_H
+#define GOTALHIM_H
+
+#include <stddef.h>
+#include <stdint.h>
+
+#ifdef __cplusplus
+extern "C" {
+#endif
+
+/*
+ * Words. Everything is 32-bit words: the kind in the top four bits, the payload in the low 28, unnamed bits zero.
+ *    1 head: number of variables n, 1 to 12 (stations)
+ *    2 size: number of values of a variable, 1 to 8 (spots of a station)
+ *    3 binding: variable in bits 8-11, value in bits 0-2
+ *    4 cost: 0 to 65,535
+ *    5 signs: index k in bits 24-27, the signs of variables 3k, 3k+1, 3k+2 in bits 0-7, 8-15, 16-23
+ *    6 weight of a row, 1 to 268,435,455
+ *    7 step: variable in bits 24-27, first row in bits 12-23, second row in bits 0-11
+ *    8, 9 easting, northing: centimetres, two's complement of 28 bits, -1,000,000 to 1,000,000
+ *   10 row count
+ * Instance: head, n sizes, entries. An entry is 0 to 12 bindings, variables rising, then a cost.
+ * Sheet: as an instance, but behind each size stand that many pairs of easting and northing.
+ * Table: head, n sizes, row count, rows of four sign words and a weight, then zeros to the end of the slice. It has
+ * room for (length - n - 2) / 5 rows, but at most 4,096.
+ * Plan: n bytes, the value of each variable.
+ *
+ * Slices. A slice is a pointer and a length in elements. The pointer is not null, even where the length is 0, and is
+ * aligned; the memory of a slice that a call may write overlaps no other slice of that call. Slices of any length and
+ * any content are good arguments: no call reads or writes outside of them.
+ *
+ * Answers. Every function returns a number: 0 for success, else that of the first test that fails. Further fields are
+ * written to the front of the answer slice; fields that it has no room for are left out, elements behind them are kept.
+ * On a refusal every field is 0 and no lent word changes, but for what is said at gotalhim_run and gotalhim_check.
+ *
+ * Numbers.
+ *    1 no words, first word not a head, or n not 1 to 12
+ *    2 size or coordinate word missing, of a wrong kind or out of range
+ *    3 entry word of a wrong kind, unknown variable or value, variables not rising, no cost word at the end
+ *    4 cost above 65,535
+ *    5 the 4,097th cost word; in a sheet the costs of travel between neighbouring variables are counted first
+ *    6 a step word that names no permitted pair
+ *    7 plan not exactly n bytes, a value out of range, or a cost that fails the claim
+ *    8 variable not below n, position out of range, or plan not exactly n bytes or with a value out of range
+ *    9 not a valid table
+ *   10 target slice too short
+ *   11 a weight would pass 268,435,455
+ *   12 the finished encoding or step would need more rows than there is room for
+ *   13 plan wanted while a pair is left
+ * Among 1 to 5 the faulty word nearest the front decides.
+ */
+
+/*
+ * Makes the instance of a sheet: first an entry for each pair of values of neighbouring variables, which costs the
+ * distance in whole metres, then the sheet's own entries.
+ * Tests: 1 to 5 on the sheet; 10 if the instance is longer than the target.
+ * Answer: the number of words written.
+ * Memory: the instance in front of the target, the rest kept.
+ */
+uint32_t gotalhim_make(const uint32_t *sheet, size_t sheet_length,
+                       uint32_t *target, size_t target_length,
+                       uint64_t *answer, size_t answer_length);
+
+/*
+ * Encodes an instance as the rows of a table, whatever the slice held before.
+ * Tests: 1 to 5 on the instance; 10 if the slice is shorter than n + 2 words; 12.
+ * Answer: the number of rows.
+ * Memory: the table, zero past its rows to the end of the slice.
+ */
+uint32_t gotalhim_encode(const uint32_t *instance, size_t instance_length,
+                         uint32_t *table, size_t table_length,
+                         uint64_t *answer, size_t answer_length);
+
+/*
+ * Makes the next step in a table: resolves the pair of rows of the lowest variable, then the lowest first row, then
+ * the lowest second row.
+ * Tests: 9; then done, if no pair is left; 11; 12.
+ * Answer: 1 if no pair is left, else 0; then the step word, 0 if no step was made. Done is a success, with number 0.
+ * Memory: the table after the step, or unchanged.
+ */
+uint32_t gotalhim_step(uint32_t *table, size_t table_length,
+                       uint64_t *answer, size_t answer_length);
+
+/*
+ * Makes steps one after the other, and writes the word of each from the front of a slice.
+ * Tests: 9; then before each step, in this order: done, if no pair is left; paused, if the limit or the end of the
+ * slice is reached; 11; 12.
+ * Answer: the outcome (0 done, 1 paused, 2 refused), the steps made, and the bound, which is the weight of the row
+ * without literals in the table that the run leaves, 0 if there is none. Done and paused are successes, with number 0.
+ * Refused with 9 it returns outcome 2, and 0 for the others; a run that 11 or 12 stops returns all its fields.
+ * Memory: the table after the last step; the words of the steps made, the rest of the slice kept. This holds for a run
+ * that 11 or 12 stops, too; refused with 9 nothing changes.
+ */
+uint32_t gotalhim_run(uint32_t *table, size_t table_length,
+                      size_t limit,
+                      uint32_t *derivation, size_t derivation_length,
+                      uint64_t *answer, size_t answer_length);
+
+/*
+ * Rebuilds the plan of least cost from a table in which no pair is left.
+ * Tests: 9; 10 if the target is shorter than n bytes; 13.
+ * Memory: the plan in front of the target, the rest kept.
+ */
+uint32_t gotalhim_plan(const uint32_t *table, size_t table_length,
+                       uint8_t *target, size_t target_length);
+
+/*
+ * Checks a derivation: encodes the instance in the work table, replays the step words, each any permitted pair on its
+ * variable, and then requires that the claimed cost is the bound and is the plan's cost.
+ * Tests: 1 to 5 on the instance; 10 if the slice is shorter than n + 2 words; 12 for the encoding; for each step word
+ * in turn 6, 11, 12; then 7.
+ * Answer: the steps replayed, also where a step word or the claim is refused.
+ * Memory: the table after the last good step, also where a step word or the claim is refused; unchanged where the
+ * encoding is.
+ */
+uint32_t gotalhim_check(const uint32_t *instance, size_t instance_length,
+                        const uint32_t *derivation, size_t derivation_length,
+                        const uint8_t *plan, size_t plan_length,
+                        uint64_t claimed,
+                        uint32_t *table, size_t table_length,
+                        uint64_t *answer, size_t answer_length);
+
+/*
+ * The distance in whole metres from a position, an easting word and a northing word, to the place of the plan's value
+ * of a variable.
+ * Tests: 1 to 5 on the sheet; 8.
+ * Answer: the metres.
+ */
+uint32_t gotalhim_readout(const uint32_t *sheet, size_t sheet_length,
+                          const uint8_t *plan, size_t plan_length,
+                          uint32_t variable, uint32_t easting, uint32_t northing,
+                          uint64_t *answer, size_t answer_length);
+
+/*
+ * The cost of a plan: the sum of the entries all of whose bindings it has.
+ * Tests: 1 to 5 on the instance; 7 for a plan that is not n values in range.
+ * Answer: the cost.
+ */
+uint32_t gotalhim_cost(const uint32_t *instance, size_t instance_length,
+                       const uint8_t *plan, size_t plan_length,
+                       uint64_t *answer, size_t answer_length);
+
+#ifdef __cplusplus
+}
+#endif
+
+#endif

@@ -1,0 +1,60 @@
+//! The library's calls with all that they are lent.
+
+#[derive(Clone, Debug, PartialEq)]
+pub enum Call {
+    Make { sheet: Vec<u32>, target: Vec<u32> },
+    Encode { instance: Vec<u32>, table: Vec<u32> },
+    Step { table: Vec<u32> },
+    Run { table: Vec<u32>, limit: usize, derivation: Vec<u32> },
+    Plan { table: Vec<u32>, target: Vec<u8> },
+    Check { instance: Vec<u32>, derivation: Vec<u32>, assignment: Vec<u8>, claimed: u64, table: Vec<u32> },
+    Readout { sheet: Vec<u32>, assignment: Vec<u8>, variable: u32, easting: u32, northing: u32 },
+    Cost { instance: Vec<u32>, assignment: Vec<u8> },
+}
+
+pub const CALLS: usize = 8;
+
+pub const NAMES: [&str; CALLS] = ["make", "encode", "step", "run", "plan", "check", "readout", "cost"];
+
+/// The numbers that random inputs of each call have to reach.
+pub const NUMBERS: [&[u32]; CALLS] = [
+    &[0, 1, 2, 3, 4, 5, 10],
+    &[0, 1, 2, 3, 4, 5, 10, 12],
+    &[0, 9, 11, 12],
+    &[0, 9, 11, 12],
+    &[0, 9, 10, 13],
+    &[0, 1, 2, 3, 4, 5, 6, 7, 10, 12],
+    &[0, 1, 2, 3, 4, 5, 8],
+    &[0, 1, 2, 3, 4, 5, 7],
+];
+
+/// How many fields each call returns besides its number.
+const FIELDS: [usize; CALLS] = [1, 1, 2, 3, 0, 1, 1, 1];
+
+impl Call {
+    /// The call's place in the lists above.
+    pub fn index(&self) -> usize {
+        match self {
+            Call::Make { .. } => 0,
+            Call::Encode { .. } => 1,
+            Call::Step { .. } => 2,
+            Call::Run { .. } => 3,
+            Call::Plan { .. } => 4,
+            Call::Check { .. } => 5,
+            Call::Readout { .. } => 6,
+            Call::Cost { .. } => 7,
+        }
+    }
+
+    pub fn fields(&self) -> usize {
+        FIELDS[self.index()]
+    }
+
+    /// The table of a step, a run or a plan.
+    pub fn into_table(self) -> Vec<u32> {
+        match self {
+            Call::Step { table } | Call::Run { table, .. } | Call::Plan { table, .. } => table,
+            _ => Vec::new(),
+        }
+    }
+}

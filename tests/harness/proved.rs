@@ -1,0 +1,62 @@
+//! The calls made by the proved library.
+
+use crate::abi;
+use crate::call::Call;
+use crate::guarded::Guarded;
+
+const WORD: u32 = 0xA5A5_5A5A;
+const BYTE: u8 = 0xA5;
+const NUMBER: u64 = 0xA5A5_5A5A_A5A5_5A5A;
+
+/// What a call answered, and whether it left all memory alone that it was not lent.
+pub struct Made {
+    pub number: u32,
+    pub kept_within: bool,
+}
+
+/// Makes a call on the memory that it holds.
+pub fn made(call: &mut Call, answer: &mut [u64]) -> Made {
+    let mut lent = Guarded::new(answer, NUMBER);
+    let made = made_with(call, lent.lent());
+    let kept_within = lent.returned(answer) && made.kept_within;
+    Made { kept_within, ..made }
+}
+
+fn made_with(call: &mut Call, answer: &mut [u64]) -> Made {
+    match call {
+        Call::Make { sheet, target } => on_words(target, |target| abi::make(sheet, target, answer)),
+        Call::Encode { instance, table } => on_words(table, |table| abi::encode(instance, table, answer)),
+        Call::Step { table } => on_words(table, |table| abi::step(table, answer)),
+        Call::Run { table, limit, derivation } => run(table, *limit, derivation, answer),
+        Call::Plan { table, target } => plan(table, target),
+        Call::Check { instance, derivation, assignment, claimed, table } => {
+            on_words(table, |table| abi::check(instance, derivation, assignment, *claimed, table, answer))
+        }
+        Call::Readout { sheet, assignment, variable, easting, northing } => {
+            let number = abi::readout(sheet, assignment, *variable, *easting, *northing, answer);
+            Made { number, kept_within: true }
+        }
+        Call::Cost { instance, assignment } => {
+            Made { number: abi::cost(instance, assignment, answer), kept_within: true }
+        }
+    }
+}
+
+fn on_words(words: &mut [u32], made: impl FnOnce(&mut [u32]) -> u32) -> Made {
+    let mut lent = Guarded::new(words, WORD);
+    let number = made(lent.lent());
+    Made { number, kept_within: lent.returned(words) }
+}
+
+fn run(table: &mut [u32], limit: usize, derivation: &mut [u32], answer: &mut [u64]) -> Made {
+    let mut steps = Guarded::new(derivation, WORD);
+    let made = on_words(table, |table| abi::run(table, limit, steps.lent(), answer));
+    let kept_within = steps.returned(derivation) && made.kept_within;
+    Made { kept_within, ..made }
+}
+
+fn plan(table: &[u32], target: &mut [u8]) -> Made {
+    let mut lent = Guarded::new(target, BYTE);
+    let number = abi::plan(table, lent.lent());
+    Made { number, kept_within: lent.returned(target) }
+}

@@ -1,0 +1,37 @@
+//! Lists of calls on one table: steps, runs and plans in any order, refused ones included.
+
+use crate::call::Call;
+use crate::comparison::Comparison;
+use crate::fields::Field;
+use crate::random::Random;
+use crate::table_damage;
+use crate::tables::{any_rows, encoded};
+
+const LIMITS: [usize; 8] = [0, 1, 2, 5, 30, 30, 200, usize::MAX];
+const SLICES: [usize; 8] = [0, 1, 3, 20, 20, 60, 200, 200];
+
+pub fn round(random: &mut Random, comparison: &mut Comparison) {
+    let field = Field::any(random);
+    let mut table = if random.percent(60) { encoded(random, &field) } else { any_rows(random, &field.sizes, 14) };
+    if random.percent(25) {
+        table = table_damage::damaged(random, table);
+    }
+    for _ in 0..random.between(1, 7) {
+        let call = any_call(random, table, field.variables());
+        table = comparison.make(random, call).into_table();
+    }
+}
+
+fn any_call(random: &mut Random, table: Vec<u32>, variables: usize) -> Call {
+    match random.below(3) {
+        0 => Call::Step { table },
+        1 => {
+            let length = random.pick(&SLICES);
+            Call::Run { table, limit: random.pick(&LIMITS), derivation: random.words(length) }
+        }
+        _ => {
+            let length = random.pick(&[0, variables - 1, variables, variables, variables, variables + 3, 12]);
+            Call::Plan { table, target: random.bytes(length) }
+        }
+    }
+}

@@ -1,0 +1,79 @@
+//! Random tables: encoded instances in slices around the needed length, and rows of any signs and weights.
+
+use plain::words::{word, HEAD, ROW_COUNT, SIGNS, SIZE, WEIGHT};
+
+use crate::fields::Field;
+use crate::random::Random;
+
+const MAX_WEIGHT: u32 = 268_435_455;
+const HEAVY: [u32; 6] = [1, 2, 3, MAX_WEIGHT / 2, MAX_WEIGHT - 1, MAX_WEIGHT];
+
+/// The length of a slice with room for so many rows.
+pub fn length(variables: usize, rows: usize) -> usize {
+    variables + 2 + 5 * rows
+}
+
+/// The number of rows of a field's encoding.
+pub fn encoded_rows(field: &Field) -> usize {
+    let mut table = vec![0; length(field.variables(), field.entries())];
+    plain::encode(&field.instance(), &mut table).expect("there is a row for every entry")
+}
+
+/// The table of a field with little or much room for more rows.
+pub fn encoded(random: &mut Random, field: &Field) -> Vec<u32> {
+    let rows = encoded_rows(field) + random.pick(&[0, 0, 1, 2, 3, 6, 60, 60, 60]);
+    let mut table = vec![0; length(field.variables(), rows) + random.below(5)];
+    plain::encode(&field.instance(), &mut table).expect("the rows fit");
+    table
+}
+
+/// A valid table of different random rows, many of them heavy.
+pub fn any_rows(random: &mut Random, sizes: &[u32], most: usize) -> Vec<u32> {
+    let mut clauses: Vec<[u32; 4]> = Vec::new();
+    let share = random.pick(&[30, 60, 90]);
+    for _ in 0..random.between(0, most) {
+        let clause = clause(random, sizes, share);
+        if !clauses.contains(&clause) {
+            clauses.push(clause);
+        }
+    }
+    let room = clauses.len() + random.pick(&[0, 0, 1, 2, 5, 60]);
+    let light = random.percent(40);
+    let weights = clauses.iter().map(|_| if light { random.between(1, 9) as u32 } else { random.pick(&HEAVY) });
+    let rows = clauses.iter().copied().zip(weights.collect::<Vec<u32>>()).collect::<Vec<_>>();
+    table(sizes, &rows, length(sizes.len(), room) + random.below(5))
+}
+
+/// The slice of this length that holds a table of these rows, zero past them.
+pub fn table(sizes: &[u32], rows: &[([u32; 4], u32)], length: usize) -> Vec<u32> {
+    let mut table = vec![word(HEAD, sizes.len() as u32)];
+    table.extend(sizes.iter().map(|&size| word(SIZE, size)));
+    table.push(word(ROW_COUNT, rows.len() as u32));
+    for (clause, weight) in rows {
+        table.extend(clause);
+        table.push(word(WEIGHT, *weight));
+    }
+    table.resize(length, 0);
+    table
+}
+
+/// The clause of these signs.
+pub fn clause_of(signs: &[u32]) -> [u32; 4] {
+    let mut clause = [0, 1, 2, 3].map(|index: u32| word(SIGNS, index << 24));
+    for (variable, sign) in signs.iter().enumerate() {
+        clause[variable / 3] |= sign << (variable % 3 * 8);
+    }
+    clause
+}
+
+/// A clause with signs that are not full, each present in a share of the cases.
+fn clause(random: &mut Random, sizes: &[u32], share: usize) -> [u32; 4] {
+    let signs = sizes.iter().map(|&size| {
+        if random.percent(share) {
+            random.below((1 << size) - 1) as u32
+        } else {
+            0
+        }
+    });
+    clause_of(&signs.collect::<Vec<u32>>())
+}
