@@ -1,0 +1,133 @@
+-- The rebuilding turn by turn, over rows with no pair left. The values chosen so far, followed by a 0 for each variable that the table lacks, are what
+-- the rest is rebuilt over; the clause carries them, and they stand in the target before what it held behind the last variable.
+use Prim.Native.Nat.{ℕ, zero, suc, _+_, _^_, _<_}
+use native.Mathlib.Omega.{arith}
+use mathlib.Core.Path.{_≡_, refl, sym, ap, ap₂, _∙_}
+use mathlib.Core.List.{List, [], _∷_, _++_}
+use mathlib.Core.Option.{none}
+use lib.ListN.{length, getD, take, drop, set, replicate, length-append, length-replicate, length-set, replicate-append-replicate}
+use lib.Seq.{drop-cons, drop-set-lt, getD-set-same, take-at}
+use lib.Count.{trailingZeros}
+use Rattle.wcsp.specs.Sign.{full, lowest}
+use Rattle.wcsp.specs.Clause.{InRange, cons, AllPositive, nilPositive, consPositive}
+use Rattle.wcsp.specs.Row.{Row, ValidRows}
+use Rattle.wcsp.specs.Resolve.{nextPair}
+use Rattle.wcsp.specs.Rebuild.{narrowed, rebuiltValue, rebuiltOver, rebuilt}
+use Rattle.wcsp.proofs.Rebuilding.{value-in-range}
+use Rattle.table.specs.Check.{Sizes, nilSizes, consSizes}
+use Rattle.table.proofs.Twelve.{sizes-at}
+use Rattle.assignment.specs.Chosen.{singles, Carries}
+use Rattle.assignment.proofs.Lowest.{trailing-lowest}
+use Rattle.assignment.proofs.Lacking.{narrowed-zeros, zeros-in-range, rebuilt-below}
+
+-- these sizes, and m variables of one value behind them
+abbrev pub lengthened : List ℕ → ℕ → List ℕ
+lengthened ds m = ds ++ replicate m 1
+
+-- rows over them in which no pair is left
+pub record Settled (ds : List ℕ) (m : ℕ) (rs : List Row) : Type 0 where
+  pub sizes : Sizes (lengthened ds m)
+  pub valid : ValidRows (lengthened ds m) rs
+  pub done : nextPair (lengthened ds m) rs ≡ none
+
+-- what was chosen from variable k on
+pub record Chosen (ds : List ℕ) (m : ℕ) (rs : List Row) (target₀ : List ℕ) (k : ℕ) (signs target : List ℕ) : Type 0 where
+  pub values : List ℕ
+  pub counted : k + length values ≡ length ds
+  pub carried : signs ≡ replicate k 0 ++ (singles values ++ replicate m 0)
+  pub same : rebuilt (lengthened ds m) rs ≡ rebuiltOver (lengthened ds m) rs k (values ++ replicate m 0)
+  pub inRange : InRange (drop k (lengthened ds m)) (values ++ replicate m 0)
+  pub written : drop k target ≡ values ++ drop (length ds) target₀
+  pub long : length target ≡ length target₀
+
+sizes-positive : {ds : List ℕ} → Sizes ds → AllPositive ds
+sizes-positive nilSizes = nilPositive
+sizes-positive (consSizes h k s) = consPositive h (sizes-positive s)
+
+set-below : (k a : ℕ) (l : List ℕ) → set (replicate (suc k) 0 ++ l) k a ≡ replicate k 0 ++ (a ∷ l)
+set-below zero a l = refl
+set-below (suc k) a l = ap (λ xs. 0 ∷ xs) (set-below k a l)
+
+drop-set : (xs : List ℕ) (k a : ℕ) → k < length xs → drop k (set xs k a) ≡ a ∷ drop (suc k) xs
+drop-set xs k a h =
+    let l : k < length (set xs k a) = omega (arith, length-set xs k a) in
+    drop-cons (set xs k a) k 0 l
+    ∙ ap₂ (λ b ys. b ∷ ys) (getD-set-same xs k a 0 h) (drop-set-lt (suc k) xs k a (omega arith))
+
+module _ (ds : List ℕ) (m : ℕ) (rs : List Row) (settled : Settled ds m rs) where
+  whole : length (lengthened ds m) ≡ length ds + m
+  whole = length-append ds (replicate m 1) ∙ ap (λ n. length ds + n) (length-replicate m 1)
+
+  positive : AllPositive (lengthened ds m)
+  positive = sizes-positive (settled .sizes)
+
+  -- nothing is chosen yet
+  pub none-chosen : (signs target : List ℕ) → signs ≡ replicate (length ds + m) 0 → Chosen ds m rs target (length ds) signs target
+  none-chosen signs target e =
+      record {
+        values = [];
+        counted = omega arith;
+        carried = e ∙ sym (replicate-append-replicate (length ds) m 0);
+        same = rebuilt-below ds m rs positive (settled .valid) (settled .done);
+        inRange = zeros-in-range positive (length ds) m (sym whole);
+        written = refl;
+        long = refl;
+      }
+
+  -- the turn at variable k: S is what is left of its full sign
+  module _ (target₀ : List ℕ) (k : ℕ) (signs target : List ℕ) (h : Chosen ds m rs target₀ (suc k) signs target) (F S : ℕ)
+      (f : F ≡ full (getD (lengthened ds m) k 0)) (answer : (q : List ℕ) → Carries signs (suc k) q → S ≡ narrowed k q F rs) where
+    abbrev above : List ℕ
+    above = h .values ++ replicate m 0
+
+    within : k < length (lengthened ds m)
+    within = omega (arith, whole, h .counted)
+
+    in-range : rebuiltValue (lengthened ds m) rs k above < getD (lengthened ds m) k 0
+    in-range = value-in-range (lengthened ds m) rs (settled .valid) k above within (h .inRange) positive (settled .done)
+
+    left : S ≡ narrowed k above (full (getD (lengthened ds m) k 0)) rs
+    left =
+        answer (h .values) (record { rest = m; bits = h .carried })
+        ∙ sym (narrowed-zeros ds m k (h .values) (h .counted) F (settled .valid))
+        ∙ ap (λ n. narrowed k above n rs) f
+
+    lowest-left : rebuiltValue (lengthened ds m) rs k above ≡ lowest (getD (lengthened ds m) k 0) S
+    unfolding rebuiltValue
+    lowest-left = ap (lowest (getD (lengthened ds m) k 0)) (sym left)
+
+    by-zeros : trailingZeros 32 S ≡ rebuiltValue (lengthened ds m) rs k above
+    by-zeros =
+        let b = in-range in
+        let e = lowest-left in
+        let l = sizes-at (settled .sizes) k in
+        trailing-lowest (getD (lengthened ds m) k 0) 32 S (omega arith) (omega arith) ∙ sym lowest-left
+
+    pub value-small : trailingZeros 32 S < 8
+    value-small = omega (arith, by-zeros, in-range, sizes-at (settled .sizes) k)
+
+    pub one-more : k < length target → Chosen ds m rs target₀ k (set signs k (2 ^ trailingZeros 32 S)) (set target k (trailingZeros 32 S))
+    unfolding rebuiltOver
+    one-more r =
+        let b : trailingZeros 32 S < getD (lengthened ds m) k 0 = omega (arith, by-zeros, in-range) in
+        record {
+          values = trailingZeros 32 S ∷ h .values;
+          counted = omega (arith, h .counted);
+          carried =
+              ap (λ l. set l k (2 ^ trailingZeros 32 S)) (h .carried)
+              ∙ set-below k (2 ^ trailingZeros 32 S) (singles (h .values) ++ replicate m 0);
+          same = h .same ∙ ap (λ n. rebuiltOver (lengthened ds m) rs k (n ∷ above)) (sym by-zeros);
+          inRange = rw (drop-cons (lengthened ds m) k 0 within) (cons b (h .inRange));
+          written = drop-set target k (trailingZeros 32 S) r ∙ ap (λ xs. trailingZeros 32 S ∷ xs) (h .written);
+          long = length-set target k (trailingZeros 32 S) ∙ h .long;
+        }
+
+-- all are chosen
+pub all-chosen : (ds : List ℕ) (m : ℕ) (rs : List Row) (target₀ signs target : List ℕ) → Chosen ds m rs target₀ 0 signs target
+    → target ≡ take (length ds) (rebuilt (lengthened ds m) rs) ++ drop (length ds) target₀
+unfolding rebuiltOver
+all-chosen ds m rs target₀ signs target h =
+    let n : length (h .values) ≡ length ds = omega (arith, h .counted) in
+    let e : take (length ds) (rebuilt (lengthened ds m) rs) ≡ h .values
+    = ap (λ l. take (length ds) l) (h .same) ∙ take-at (h .values) (replicate m 0) (length ds) n in
+    h .written ∙ ap (λ l. l ++ drop (length ds) target₀) (sym e)

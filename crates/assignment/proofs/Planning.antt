@@ -1,0 +1,116 @@
+-- The plan call: what each return leaves is what the definition says, by the answers of the table's test and of the hunt for a pair.
+use Prim.Native.Nat.{ℕ, _+_, _*_, _<_, _≤_}
+use native.Mathlib.Omega.{arith}
+use mathlib.Core.Path.{_≡_, refl, sym, ap, _∙_}
+use mathlib.Core.Bool.{Bool, true, false, cond}
+use mathlib.Core.List.{List, _++_}
+use mathlib.Core.Option.{Option, none, some}
+use lib.ListN.{length, drop}
+use borrow.Author.Tests.{lt-ltb, le-ltb}
+use Rattle.wcsp.specs.Resolve.{Pair, nextPair}
+use Rattle.clause.specs.Packed.{Packed}
+use Rattle.table.specs.declared.Shape.{Shape}
+use Rattle.table.specs.declared.Checked.{Checked}
+use Rattle.table.specs.declared.Checked.the-variants.{Table, Invalid}
+use Rattle.table.specs.Meaning.{variablesOf, rowsFrom, tableRows, domains}
+use Rattle.table.specs.Valid.{validTable}
+use Rattle.table.specs.Check.{shapeOf, checkTable}
+use Rattle.hunt.specs.declared.Hunted.{Hunted}
+use Rattle.hunt.specs.declared.Hunted.the-variants.{Next, Nothing}
+use Rattle.hunt.specs.Hunt.{huntedOf}
+use Rattle.hunt.proofs.Climbing as climbing
+use Rattle.assignment.specs.Calls.{PlanReturned, tableAssignment, planOn, planCall}
+use Rattle.assignment.specs.Chosen.{Ready}
+use Rattle.assignment.proofs.Tables.{table-valid, variables-are, rows-within, rows-are, fulls-are, fulls-packed}
+
+-- what the call returns and leaves
+abbrev pub Returned : List ℕ → List ℕ → ℕ → List ℕ → Type 0
+Returned t target number left = (number ≡ planCall t target .number) × (left ≡ planCall t target .target)
+
+returned : (t target : List ℕ) (r : PlanReturned) → planCall t target ≡ r → Returned t target (r .number) (r .target)
+returned t target r e = (sym (ap (λ p. p .number) e), sym (ap (λ p. p .target) e))
+
+module _ (t target : List ℕ) where
+  call-invalid : validTable t ≡ false → planCall t target ≡ record { number = 9; target = target }
+  unfolding planCall
+  call-invalid v = rw v
+
+  module _ (v : validTable t ≡ true) where
+    call-short : length target < variablesOf t → planCall t target ≡ record { number = 10; target = target }
+    unfolding planCall
+    call-short h = rw (v, lt-ltb (length target) (variablesOf t) h)
+
+    call-on : variablesOf t ≤ length target → planCall t target ≡ planOn t target (nextPair (domains t) (tableRows t))
+    unfolding planCall
+    call-on h = rw (v, le-ltb (length target) (variablesOf t) h)
+
+module _ (t : List ℕ) (checked : Checked) (answer : checked ≡ checkTable t) where
+  pub not-a-table : (target : List ℕ) → checked ≡ Invalid → Returned t target 9 target
+  unfolding checkTable
+  not-a-table target e = go (validTable t) refl (sym answer ∙ e)
+    where
+      go : (b : Bool) → validTable t ≡ b → cond b (Table (shapeOf t)) Invalid ≡ Invalid → Returned t target 9 target
+      go true v f = let z : _≡_ {A = ℕ} 0 1 = cc in absurd (omega arith)
+      go false v f = returned t target _ (call-invalid t target v)
+
+  module _ (shape : Shape) (is : checked ≡ Table shape) where
+    told : (validTable t ≡ true) × (shape ≡ shapeOf t)
+    unfolding checkTable
+    told = go (validTable t) refl (sym answer ∙ is)
+      where
+        go : (b : Bool) → validTable t ≡ b → cond b (Table (shapeOf t)) Invalid ≡ Table shape → (b ≡ true) × (shape ≡ shapeOf t)
+        go true v f = (refl, cc)
+        go false v f = let z : _≡_ {A = ℕ} 0 1 = cc in absurd (omega arith)
+
+    variables : shape .variables ≡ variablesOf t
+    variables = variables-are t (told .0) shape (told .1)
+
+    rows : rowsFrom (shape .count) (drop (shape .variables + 2) t) ≡ tableRows t
+    rows = rows-are t (told .0) shape (told .1)
+
+    pub may-hunt : (shape .variables + 2 + 5 * shape .count ≤ length t) × Packed (shape .fulls)
+    may-hunt = (rows-within t (told .0) shape (told .1), fulls-packed t (told .0) shape (told .1))
+
+    pub too-short : (target : List ℕ) → length target < shape .variables → Returned t target 10 target
+    too-short target h = returned t target _ (call-short t target (told .0) (omega (arith, variables)))
+
+    module _ (found : Hunted)
+        (sought : climbing.Over t (shape .variables + 2) (shape .count) 0 0 0 (shape .fulls)
+        (λ ds. found ≡ huntedOf (nextPair ds (rowsFrom (shape .count) (drop (shape .variables + 2) t))))) where
+      hunted : found ≡ huntedOf (nextPair (domains t) (tableRows t))
+      hunted =
+          sought (domains t)
+          (fulls-are t (told .0) shape (told .1))
+          (rw rows (table-valid t (told .0)))
+          (λ v l. absurd (omega arith))
+          (omega arith, λ k l a. absurd (omega arith))
+          ∙ ap (λ rs. huntedOf (nextPair (domains t) rs)) rows
+
+      module _ (target : List ℕ) (room : shape .variables ≤ length target) where
+        in-target : variablesOf t ≤ length target
+        in-target = omega (arith, variables)
+
+        pub pair-left : (a b d : ℕ) → found ≡ Next a b d → Returned t target 13 target
+        unfolding huntedOf planOn
+        pair-left a b d e = go (nextPair (domains t) (tableRows t)) refl (sym hunted ∙ e)
+          where
+            go : (o : Option Pair) → nextPair (domains t) (tableRows t) ≡ o → huntedOf o ≡ Next a b d → Returned t target 13 target
+            go none p f = let z : _≡_ {A = ℕ} 0 1 = cc in absurd (omega arith)
+            go (some pr) p f = returned t target _ (call-on t target (told .0) in-target ∙ ap (planOn t target) p)
+
+        module _ (e : found ≡ Nothing) where
+          none-left : nextPair (domains t) (tableRows t) ≡ none
+          unfolding huntedOf
+          none-left = go (nextPair (domains t) (tableRows t)) (sym hunted ∙ e)
+            where
+              go : (o : Option Pair) → huntedOf o ≡ Nothing → o ≡ none
+              go none f = refl
+              go (some pr) f = cc
+
+          pub ready : Ready t shape target
+          ready = record { valid = told .0; shaped = told .1; done = none-left; room = in-target }
+
+          pub rebuilt-all : (left : List ℕ) → left ≡ tableAssignment t ++ drop (variablesOf t) target → Returned t target 0 left
+          unfolding planOn
+          rebuilt-all left q =
+              let (a, b) = returned t target _ (call-on t target (told .0) in-target ∙ ap (planOn t target) none-left) in (a, q ∙ b)

@@ -1,0 +1,144 @@
+-- The rebuilding in a valid table: what its words say of sizes, rows and full signs, and the turns' laws in these terms.
+use Prim.Native.Nat.{ℕ, suc, _+_, _-_, _*_, _%_, _^_, _<_, _≤_}
+use native.Mathlib.Omega.{arith}
+use mathlib.Core.Path.{_≡_, sym, ap, _∙_}
+use mathlib.Core.Bool.{true}
+use mathlib.Core.List.{List, _++_}
+use lib.ListN.{length, getD, take, drop, set, replicate, List·getD-map}
+use lib.Count.{trailingZeros}
+use lib.Pow.{pow-mono}
+use Rattle.wcsp.specs.Sign.{full}
+use Rattle.wcsp.specs.Row.{ValidRows}
+use Rattle.wcsp.specs.Rebuild.{narrowed, rebuilt}
+use Rattle.clause.specs.declared.Clause.{Clause}
+use Rattle.clause.specs.Packed.{signsOf, Packed, Holds, FullSigns}
+use Rattle.input.specs.Instance.{padded}
+use Rattle.table.specs.declared.Shape.{Shape}
+use Rattle.table.specs.Meaning.{variablesOf, tableSizes, tableRows, rowsFrom, domains}
+use Rattle.table.specs.Valid.{validTable}
+use Rattle.table.specs.Check.{shapeOf}
+use Rattle.table.proofs.Twelve.{sizes-padded, full-signs-padded, full-packed-padded}
+use Rattle.table.proofs.Canonical.{passed, validIsCanonical}
+use Rattle.table.proofs.Finishing.{valid-variables, valid-room}
+use Rattle.assignment.specs.Calls.{tableAssignment}
+use Rattle.assignment.specs.Chosen.{Carries, Ready}
+use Rattle.assignment.proofs.Choosing.{Settled, Chosen, none-chosen, value-small, one-more, all-chosen}
+
+-- ---- what a valid table says
+
+module _ (t : List ℕ) (v : validTable t ≡ true) where
+  few-sizes : length (tableSizes t) ≤ 12
+  few-sizes = omega (arith, valid-variables t v, passed t v .few)
+
+  pub table-valid : ValidRows (domains t) (tableRows t)
+  unfolding domains
+  table-valid = validIsCanonical t v .holdable .valid
+
+  module _ (shape : Shape) (e : shape ≡ shapeOf t) where
+    pub variables-are : shape .variables ≡ variablesOf t
+    variables-are = ap (λ s. s .variables) e
+
+    pub few-variables : shape .variables ≤ 12
+    few-variables = omega (arith, variables-are, passed t v .few)
+
+    pub rows-within : shape .variables + 2 + 5 * shape .count ≤ length t
+    rows-within = omega (arith, variables-are, ap (λ s. s .count) e, valid-room t v)
+
+    pub rows-are : rowsFrom (shape .count) (drop (shape .variables + 2) t) ≡ tableRows t
+    unfolding tableRows
+    rows-are = ap (λ s. rowsFrom (s .count) (drop (s .variables + 2) t)) e
+
+    pub fulls-are : FullSigns (shape .fulls) (domains t)
+    unfolding domains
+    fulls-are = rw e (full-signs-padded (tableSizes t) few-sizes (validIsCanonical t v .holdable .sizes))
+
+    pub fulls-packed : Packed (shape .fulls)
+    unfolding domains
+    fulls-packed = rw e (full-packed-padded (tableSizes t) few-sizes (validIsCanonical t v .holdable .sizes))
+
+-- ---- the turns
+
+-- the variables that the table lacks
+abbrev lacking : List ℕ → ℕ
+lacking t = 12 - length (tableSizes t)
+
+-- the values chosen from variable k on
+pub record Rebuilding (t target₀ target : List ℕ) (chosen : Clause) (k : ℕ) : Type 0 where
+  pub packed : Packed chosen
+  pub so-far : Chosen (tableSizes t) (lacking t) (tableRows t) target₀ k (signsOf chosen) target
+
+module _ (t : List ℕ) (shape : Shape) (target₀ : List ℕ) (ready : Ready t shape target₀) where
+  settled : Settled (tableSizes t) (lacking t) (tableRows t)
+  unfolding domains padded
+  settled =
+      record {
+        sizes = sizes-padded (validIsCanonical t (ready .valid) .holdable .sizes);
+        valid = table-valid t (ready .valid);
+        done = ready .done;
+      }
+
+  pub start : (chosen : Clause) → Holds chosen (replicate 12 0) → Rebuilding t target₀ target₀ chosen (shape .variables)
+  start chosen h =
+      let n : length (tableSizes t) + lacking t ≡ 12 = omega (arith, few-sizes t (ready .valid)) in
+      let e : length (tableSizes t) ≡ shape .variables = valid-variables t (ready .valid) ∙ sym (variables-are t (ready .valid) shape (ready .shaped)) in
+      rw (← e)
+      (record {
+        packed = h .packed;
+        so-far = none-chosen (tableSizes t) (lacking t) (tableRows t) settled (signsOf chosen) target₀
+            (h .signsAre ∙ ap (λ i. replicate i 0) (sym n));
+      })
+
+  -- the turn at variable k
+  module _ (target : List ℕ) (chosen : Clause) (j k : ℕ) (e : j ≡ suc k) (r : Rebuilding t target₀ target chosen j) where
+    before : Chosen (tableSizes t) (lacking t) (tableRows t) target₀ (suc k) (signsOf chosen) target
+    before = rw e at (r .so-far)
+
+    pub variable-low : k < 12
+    variable-low = omega (arith, before .counted, few-sizes t (ready .valid))
+
+    pub place-within : k < length target
+    place-within = omega (arith, before .counted, before .long, valid-variables t (ready .valid), ready .room)
+
+    module _ (F S : ℕ) (f : F ≡ getD (signsOf (shape .fulls)) k 0)
+        (answer : (q : List ℕ) → Carries (signsOf chosen) (suc k) q → S ≡ narrowed k q F (rowsFrom (shape .count) (drop (shape .variables + 2) t))) where
+      full-here : F ≡ full (getD (domains t) k 0)
+      unfolding full
+      full-here =
+          f
+          ∙ ap (λ l. getD l k 0) (fulls-are t (ready .valid) shape (ready .shaped))
+          ∙ List·getD-map full (domains t) k 0
+
+      narrowed-here : (q : List ℕ) → Carries (signsOf chosen) (suc k) q → S ≡ narrowed k q F (tableRows t)
+      narrowed-here q c = answer q c ∙ ap (narrowed k q F) (rows-are t (ready .valid) shape (ready .shaped))
+
+      pub value-bound : trailingZeros 32 S < 8
+      unfolding domains padded
+      value-bound =
+          value-small (tableSizes t) (lacking t) (tableRows t) settled target₀ k (signsOf chosen) target before F S full-here narrowed-here
+
+      bits : 2 ^ trailingZeros 32 S ≤ 128
+      bits = let b = value-bound in pow-mono {i = trailingZeros 32 S} {j = 7} (omega arith)
+
+      shifted : 1 * 2 ^ trailingZeros 32 S % 4294967296 ≡ 2 ^ trailingZeros 32 S
+      shifted = omega (arith, bits)
+
+      pub bit-small : 1 * 2 ^ trailingZeros 32 S % 4294967296 < 256
+      bit-small = omega (arith, shifted, bits)
+
+      pub again : (next : Clause) → Holds next (set (signsOf chosen) k (1 * 2 ^ trailingZeros 32 S % 4294967296))
+          → Rebuilding t target₀ (set target k (trailingZeros 32 S)) next k
+      unfolding domains padded
+      again next h =
+          record {
+            packed = h .packed;
+            so-far = rw (h .signsAre, shifted)
+                (one-more (tableSizes t) (lacking t) (tableRows t) settled target₀ k (signsOf chosen) target before F S full-here narrowed-here
+                place-within);
+          }
+
+  pub finished : (target : List ℕ) (chosen : Clause) (k : ℕ) → k ≡ 0 → Rebuilding t target₀ target chosen k
+      → target ≡ tableAssignment t ++ drop (variablesOf t) target₀
+  unfolding tableAssignment domains padded
+  finished target chosen k e r =
+      all-chosen (tableSizes t) (lacking t) (tableRows t) target₀ (signsOf chosen) target (rw e at (r .so-far))
+      ∙ ap (λ n. take n (rebuilt (domains t) (tableRows t)) ++ drop n target₀) (valid-variables t (ready .valid))

@@ -1,0 +1,36 @@
+-- The plan call: its number and its target bytes, for good and refused calls alike.
+use Prim.Native.Nat.{ℕ, zero, suc}
+use mathlib.Core.Bool.{cond}
+use mathlib.Core.List.{List, _++_}
+use mathlib.Core.Option.{Option, none, some}
+use lib.ListN.{length, take, drop}
+use lib.Dec.{ltb}
+use Rattle.wcsp.specs.Resolve.{Pair, nextPair}
+use Rattle.wcsp.specs.Rebuild.{rebuilt}
+use Rattle.table.specs.Meaning.{variablesOf, tableRows, domains}
+use Rattle.table.specs.Valid.{validTable}
+
+-- a number, 0 for success, and the target as the call returns
+pub record PlanReturned : Type 0 where
+  pub number : ℕ
+  pub target : List ℕ
+
+-- the rebuilt assignment (document 01: plan) of a table's variables
+unfoldable pub tableAssignment : List ℕ → List ℕ
+tableAssignment t = take (variablesOf t) (rebuilt (domains t) (tableRows t))
+
+-- 13 while a pair remains
+unfoldable pub planOn : List ℕ → List ℕ → Option Pair → PlanReturned
+unfolding tableAssignment
+planOn t target none = record { number = 0; target = tableAssignment t ++ drop (variablesOf t) target }
+planOn t target (some pr) = record { number = 13; target = target }
+
+-- plan: 9, 10 for a target shorter than n bytes, 13; else n bytes, the rest of the target kept
+unfoldable pub planCall : List ℕ → List ℕ → PlanReturned
+unfolding planOn
+planCall t target =
+    cond (validTable t)
+    (cond (ltb (length target) (variablesOf t))
+    (record { number = 10; target = target })
+    (planOn t target (nextPair (domains t) (tableRows t))))
+    (record { number = 9; target = target })

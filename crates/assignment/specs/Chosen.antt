@@ -1,0 +1,36 @@
+-- The values chosen so far, carried by a clause: at each of their variables the one value alone. A row is falsified there if it has nothing in common with it.
+use Prim.Native.Nat.{ℕ, _≤_, _^_}
+use mathlib.Core.Path.{_≡_}
+use mathlib.Core.Bool.{Bool, true, _&&_}
+use mathlib.Core.List.{List, [], _∷_, _++_, map}
+use mathlib.Core.Option.{none}
+use lib.ListN.{length, replicate}
+use lib.Bits.{bitAnd}
+use lib.Dec.{eqb}
+use Rattle.wcsp.specs.Resolve.{nextPair}
+use Rattle.table.specs.declared.Shape.{Shape}
+use Rattle.table.specs.Meaning.{variablesOf, tableRows, domains}
+use Rattle.table.specs.Valid.{validTable}
+use Rattle.table.specs.Check.{shapeOf}
+
+-- at no variable do the two clauses have a value in common
+unfoldable pub disjoint : List ℕ → List ℕ → Bool
+disjoint [] y = true
+disjoint (S ∷ x) [] = true
+disjoint (S ∷ x) (T ∷ y) = eqb (bitAnd S T) 0 && disjoint x y
+
+-- the sign that holds each value alone
+abbrev pub singles : List ℕ → List ℕ
+singles q = map (λ v. 2 ^ v) q
+
+-- signs that carry the values q of the variables from k on, and nothing below k or behind them
+pub record Carries (signs : List ℕ) (k : ℕ) (q : List ℕ) : Type 0 where
+  pub rest : ℕ
+  pub bits : signs ≡ replicate k 0 ++ (singles q ++ replicate rest 0)
+
+-- a valid table of this shape in which no pair is left, and room for its assignment
+pub record Ready (t : List ℕ) (shape : Shape) (target : List ℕ) : Type 0 where
+  pub valid : validTable t ≡ true
+  pub shaped : shape ≡ shapeOf t
+  pub done : nextPair (domains t) (tableRows t) ≡ none
+  pub room : variablesOf t ≤ length target

@@ -1,0 +1,3 @@
+-- The rebuilt assignment of a table, written as bytes.
+pub mod Calls
+pub mod Chosen

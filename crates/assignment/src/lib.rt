@@ -1,0 +1,87 @@
+// The plan call: the rebuilt assignment of a table in which no pair is left.
+ghost use mathlib.Core.Path.{_≡_};
+ghost use mathlib.Core.List.{List, _++_};
+ghost use Prim.Native.Nat.{ℕ, suc, _+_, _*_, _<_, _≤_};
+ghost use lib.ListN.{length, drop};
+ghost use Rattle.wcsp.specs.Rebuild.{narrowed};
+ghost use Rattle.clause.specs.Packed.{signsOf};
+ghost use Rattle.table.specs.Meaning.{variablesOf, rowsFrom};
+ghost use Rattle.assignment.specs.Calls.{tableAssignment, planCall};
+ghost use Rattle.assignment.specs.Chosen.{disjoint, Carries, Ready};
+use clause::Clause;
+use hunt::Hunted;
+use table::Checked;
+use table::Shape;
+
+// The two clauses have no value in common at any variable.
+fn apart(x: Clause, y: Clause) -> bool
+    ensures { λ r. ⌜ r ≡ disjoint (signsOf x) (signsOf y) ⌝ }
+{
+    if x.a & y.a != 0 {
+        return false;
+    }
+    if x.b & y.b != 0 {
+        return false;
+    }
+    if x.c & y.c != 0 {
+        return false;
+    }
+    x.d & y.d == 0
+}
+
+// The full sign met with the signs at k of the rows of bucket k that the chosen higher values falsify.
+fn narrow(t: &[u32], base: usize, count: usize, k: u32, chosen: Clause, full: u32) -> u32
+    requires { ⌜ (base + 5 * count ≤ length (now t)) × (k < 12) ⌝ }
+    ensures { λ r. ⌜ ((q : List ℕ) → Carries (signsOf chosen) (suc k) q → r ≡ narrowed k q full (rowsFrom count (drop base (now (t .entry))))) ⌝ }
+{
+    let mut sign = full;
+    let mut i = 0;
+    while i < count {
+        let x = rows::clause_of(t, base, i);
+        if x.lowest() == k && apart(x, chosen) {
+            sign = sign & x.sign(k);
+        }
+        i += 1;
+    }
+    sign
+}
+
+// The values from the last variable down: the lowest that lies in every sign that counts. A clause carries the chosen values' bits.
+fn rebuild(t: &[u32], shape: Shape, target: &mut [u8])
+    requires { ⌜ Ready (now t) shape (now target) ⌝ }
+    ensures { λ r. ⌜ now (target .exit) ≡ tableAssignment (now (t .entry)) ++ drop (variablesOf (now (t .entry))) (now (target .entry)) ⌝ }
+{
+    let base = shape.variables + 2;
+    let count = shape.count;
+    let fulls = shape.fulls;
+    let mut chosen = Clause::empty();
+    let mut k = shape.variables;
+    while 0 < k {
+        k -= 1;
+        let v = k as u32;
+        let sign = narrow(t, base, count, v, chosen, fulls.sign(v));
+        let value = u32::trailing_zeros(sign);
+        target[k] = value as u8;
+        chosen = chosen.replaced(v, 1u32 << value);
+    }
+}
+
+// Plan: 9, 10, 13; else the assignment in the first n bytes, the rest of the target kept.
+pub fn plan(t: &[u32], target: &mut [u8]) -> u32
+    ensures { λ r. ⌜ (r ≡ planCall (now (t .entry)) (now (target .entry)) .number) × (now (target .exit) ≡ planCall (now (t .entry)) (now (target .entry)) .target) ⌝ }
+{
+    let checked = table::check(t);
+    let Checked::Table(shape) = checked else {
+        return 9;
+    };
+    let n = shape.variables;
+    if target.len() < n {
+        return 10;
+    }
+    let found = hunt::hunt(t, n + 2, shape.count, 0, 0, 0, shape.fulls);
+    if let Hunted::Next(_, _, _) = found {
+        return 13;
+    }
+    rebuild(t, shape, target);
+    0
+}

@@ -1,0 +1,72 @@
+-- The planner's derivation is accepted: the checker's encoding is good in a table of the same length, the steps are replayed to the rows
+-- that the calls left, and there the claim holds, since the rebuilt assignment is the best.
+use Prim.Native.Nat.{ℕ, _+_, _≤_}
+use native.Mathlib.Nat.{zero-add}
+use native.Mathlib.Omega.{arith}
+use mathlib.Core.Path.{_≡_, refl, sym}
+use mathlib.Core.Bool.{true}
+use mathlib.Core.List.{List}
+use lib.ListN.{length}
+use borrow.Author.Tests.{eq-eqb}
+use Rattle.wcsp.specs.Row.{Row, emptyWeight}
+use Rattle.wcsp.specs.Entry.{cost}
+use Rattle.input.specs.Instance.{maxVariables, sizesOf, entriesOf, padded}
+use Rattle.input.proofs.Padding.{assignment-of}
+use Rattle.table.specs.Layout.{capacity}
+use Rattle.table.specs.Meaning.{tableRows}
+use Rattle.encoding.specs.Calls.{encodedRows}
+use Rattle.assignment.specs.Calls.{tableAssignment}
+use Rattle.checker.specs.Replay.{replay}
+use Rattle.checker.specs.Calls.{claimHolds, judged}
+use Rattle.checker.proofs.Kept.{Coded, coded, coded-number, encoded-keeps}
+use Rattle.checker.proofs.Claims.{check-judged}
+use Rattle.calls.specs.Calls.{afterCalls, started}
+use Rattle.calls.specs.Demand.{room, Best}
+use Rattle.calls.specs.Derivation.{DerivationAccepted}
+use Rattle.calls.proofs.Reaching.{reaches-replayed}
+use Rattle.calls.proofs.Moving.{moved-left, left-held, reached}
+use Rattle.calls.proofs.Upholding.{upheld}
+
+capacity-small : (len n : ℕ) → capacity len n ≤ 4096
+unfolding capacity
+capacity-small len n = omega arith
+
+-- the best assignment with the empty row's weight is a claim that holds
+best-claim : (inst plan : List ℕ) (rs : List Row) → Best inst plan (emptyWeight maxVariables rs)
+    → claimHolds inst plan (emptyWeight maxVariables rs) rs ≡ true
+unfolding claimHolds
+best-claim inst plan rs b =
+    let w = emptyWeight maxVariables rs in
+    rw (
+      assignment-of (b .inRange),
+      eq-eqb w w refl,
+      eq-eqb w (cost (entriesOf inst) plan) (sym (b .attained)),
+    )
+
+-- the encoding asks nothing of the slice but its length
+same-length : (inst t work : List ℕ) → length work ≡ length t → Coded inst t → Coded inst work
+same-length inst t work e c = record { accepted = c .accepted; room = rw e (c .room); fits = rw e (c .fits) }
+
+pub derivationAccepted : DerivationAccepted
+unfolding judged
+derivationAccepted inst t calls e done work long =
+    let c = coded inst t e in
+    let st = afterCalls (started inst t) calls in
+    let m = reached inst t c calls in
+    let rs = m .rows in
+    let h = left-held inst t c (st .table) rs (moved-left inst t c m) (m .table) in
+    let b : Best inst (tableAssignment (st .table)) (emptyWeight maxVariables rs)
+    = rw (h .rows) at (upheld inst t c (st .table) (st .derivation) m .best done) in
+    let replayed : replay (padded (sizesOf inst)) (capacity (length t) (length (sizesOf inst))) (encodedRows inst) 0 (st .derivation)
+    ≡ record { number = 0; steps = 0 + length (st .derivation); rows = rs }
+    = reaches-replayed inst (c .accepted) (room inst t) (capacity-small (length t) (length (sizesOf inst))) 0
+    (record { keeps = encoded-keeps inst (c .accepted); fits = c .fits }) (m .reaches) in
+    rw (
+      check-judged inst (st .derivation) (tableAssignment (st .table)) (emptyWeight maxVariables (tableRows (st .table))) work
+          (coded-number inst work (same-length inst t work long c)),
+      long,
+      replayed,
+      h .rows,
+      best-claim inst (tableAssignment (st .table)) rs b,
+      zero-add,
+    )

@@ -1,0 +1,91 @@
+-- Steps on the next pair whose rows all fit: what a list of calls makes of rows. Such steps are those of the derivation, keep the instance,
+-- and are replayed to the end, since the step word of every pair reads back.
+use Prim.Native.Nat.{ℕ, suc, _+_, _≤_, _<_}
+use native.Mathlib.Omega.{arith}
+use mathlib.Core.Path.{_≡_}
+use mathlib.Core.Bool.{cond}
+use mathlib.Core.List.{List, [], _∷_, _++_}
+use mathlib.Core.Option.{some}
+use lib.ListN.{length}
+use lib.Dec.{ltb}
+use borrow.Author.Tests.{le-ltb}
+use Rattle.wcsp.specs.Row.{Row}
+use Rattle.wcsp.specs.Resolve.{Pair, nextPair, resolve, Steps}
+use Rattle.wcsp.proofs.NextPair.{next-permitted}
+use Rattle.words.proofs.Reading.{read-step}
+use Rattle.input.specs.Instance.{instanceFault, sizesOf, padded}
+use Rattle.stepping.specs.Step.{refusing, stepping, allowed, pairWord}
+use Rattle.checker.specs.Replay.{namedPair, replayOn, replayWord, replayNext, replay}
+use Rattle.checker.proofs.Kept.{step-keeps, keeps-light, twelve}
+use Rattle.checker.proofs.Replaying.{Left, permitted-passes}
+use Rattle.calls.specs.Calls.{Derives}
+
+pub data Reaches (ds : List ℕ) (cap : ℕ) : List Row → List ℕ → List Row → Type 0 where
+  still : {rs : List Row} → Reaches ds cap rs [] rs
+  onward : {rs rs′ : List Row} {ws : List ℕ} (pr : Pair) → nextPair ds rs ≡ some pr → length (resolve ds pr rs) ≤ cap
+      → Reaches ds cap (resolve ds pr rs) ws rs′ → Reaches ds cap rs (pairWord pr ∷ ws) rs′
+
+pub reaches-append : {ds : List ℕ} {cap : ℕ} {rs rs′ rs″ : List Row} {ws vs : List ℕ} → Reaches ds cap rs ws rs′
+    → Reaches ds cap rs′ vs rs″ → Reaches ds cap rs (ws ++ vs) rs″
+reaches-append still b = b
+reaches-append (onward pr e f a) b = onward pr e f (reaches-append a b)
+
+pub reaches-derives : {ds : List ℕ} {cap : ℕ} {rs rs′ : List Row} {ws : List ℕ} → Reaches ds cap rs ws rs′ → Derives ds rs ws rs′
+reaches-derives still = Derives.stop
+reaches-derives (onward pr e f a) = Derives.step pr e (reaches-derives a)
+
+pub reaches-steps : {ds : List ℕ} {cap : ℕ} {rs rs′ : List Row} {ws : List ℕ} → Reaches ds cap rs ws rs′ → Steps ds rs (length ws) rs′
+reaches-steps still = Steps.stop
+reaches-steps (onward pr e f a) = Steps.step pr e (reaches-steps a)
+
+module _ (inst : List ℕ) (accepted : instanceFault inst ≡ 0) (cap : ℕ) where
+  -- one step on the next pair
+  pub next-left : {rs : List Row} (pr : Pair) → Left inst cap rs → nextPair (padded (sizesOf inst)) rs ≡ some pr
+      → length (resolve (padded (sizesOf inst)) pr rs) ≤ cap → Left inst cap (resolve (padded (sizesOf inst)) pr rs)
+  next-left {rs} pr l e f =
+      record { keeps = step-keeps inst accepted rs (l .keeps) pr (next-permitted (padded (sizesOf inst)) rs pr e); fits = f }
+
+  pub reaches-left : {rs rs′ : List Row} {ws : List ℕ} → Left inst cap rs → Reaches (padded (sizesOf inst)) cap rs ws rs′ → Left inst cap rs′
+  reaches-left l still = l
+  reaches-left l (onward pr e f a) = reaches-left (next-left pr l e f) a
+
+  -- 11 never: only the room is asked for
+  pub allowed-room : {rs : List Row} (pr : Pair) → Left inst cap rs → nextPair (padded (sizesOf inst)) rs ≡ some pr
+      → allowed cap pr (resolve (padded (sizesOf inst)) pr rs)
+      ≡ cond (ltb cap (length (resolve (padded (sizesOf inst)) pr rs))) (refusing 12) (stepping pr (resolve (padded (sizesOf inst)) pr rs))
+  unfolding allowed
+  allowed-room {rs} pr l e =
+      let ds = padded (sizesOf inst) in
+      let k = step-keeps inst accepted rs (l .keeps) pr (next-permitted ds rs pr e) in
+      rw (keeps-light inst accepted (resolve ds pr rs) k)
+
+  module _ (small : cap ≤ 4096) where
+    -- the step word of the next pair is replayed
+    word-replayed : {rs : List Row} (pr : Pair) → Left inst cap rs → nextPair (padded (sizesOf inst)) rs ≡ some pr
+        → length (resolve (padded (sizesOf inst)) pr rs) ≤ cap
+        → replayWord (padded (sizesOf inst)) cap rs (pairWord pr) ≡ stepping pr (resolve (padded (sizesOf inst)) pr rs)
+    unfolding replayWord namedPair replayOn
+    word-replayed {rs} pr l e f =
+        let ds = padded (sizesOf inst) in
+        let m = next-permitted ds rs pr e in
+        let t = twelve inst accepted in
+        let s : pr .variable < 16 = omega (arith, m .known) in
+        let j : pr .second < 4096 = omega (arith, m .inTable, l .fits) in
+        let i : pr .first < 4096 = omega (arith, m .ordered) in
+        rw (
+          read-step (pr .variable) (pr .first) (pr .second) s i j,
+          permitted-passes ds rs pr m,
+          allowed-room pr l e,
+          le-ltb cap (length (resolve ds pr rs)) f,
+        )
+
+    pub reaches-replayed : {rs rs′ : List Row} {ws : List ℕ} (k : ℕ) → Left inst cap rs → Reaches (padded (sizesOf inst)) cap rs ws rs′
+        → replay (padded (sizesOf inst)) cap rs k ws ≡ record { number = 0; steps = k + length ws; rows = rs′ }
+    unfolding replay replayNext
+    reaches-replayed k l still = rw (added k)
+      where
+        added : (n : ℕ) → n + 0 ≡ n
+        added n = omega arith
+    reaches-replayed k l (onward {ws = ws} pr e f a) =
+        let n : suc k + length ws ≡ k + suc (length ws) = omega arith in
+        rw (word-replayed pr l e f, ← n) (reaches-replayed (suc k) (next-left pr l e f) a)

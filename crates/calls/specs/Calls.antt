@@ -1,0 +1,55 @@
+-- A list of step calls, runs and plan calls on the table that an encoding wrote: each call gets it as the call before left it.
+use Prim.Native.Nat.{ℕ}
+use mathlib.Core.Path.{_≡_}
+use mathlib.Core.List.{List, [], _∷_, _++_}
+use mathlib.Core.Option.{some}
+use lib.ListN.{take}
+use Rattle.wcsp.specs.Row.{Row}
+use Rattle.wcsp.specs.Resolve.{Pair, nextPair, resolve}
+use Rattle.encoding.specs.Calls.{Returned, encodeCall}
+use Rattle.stepping.specs.Step.{pairWord}
+use Rattle.resolution.specs.declared.StepAnswer.{StepAnswer}
+use Rattle.resolution.specs.declared.StepAnswer.the-variants.{Refused, Done, Stepped}
+use Rattle.resolution.specs.Calls.{StepReturned, stepCall, RunReturned, runCall}
+
+-- a call: a step; a run with its limit and its slice's content; a plan with its target's content
+pub data Call : Type 0 where
+  stepAsked : Call
+  runAsked : ℕ → List ℕ → Call
+  planAsked : List ℕ → Call
+
+-- the table, and the derivation: every step word since the encoding, whichever call made the step
+pub record State : Type 0 where
+  pub table : List ℕ
+  pub derivation : List ℕ
+
+unfoldable pub wordsOfStep : StepAnswer → List ℕ
+wordsOfStep (Refused k) = []
+wordsOfStep Done = []
+wordsOfStep (Stepped w) = w ∷ []
+
+-- a plan call writes to its target alone
+unfoldable pub afterCall : State → Call → State
+unfolding wordsOfStep
+afterCall st stepAsked =
+    let r = stepCall (st .table) in
+    record { table = r .table; derivation = st .derivation ++ wordsOfStep (r .answer) }
+afterCall st (runAsked limit slice) =
+    let r = runCall (st .table) limit slice in
+    record { table = r .table; derivation = st .derivation ++ take (r .answer .steps) (r .slice) }
+afterCall st (planAsked target) = st
+
+unfoldable pub afterCalls : State → List Call → State
+unfolding afterCall
+afterCalls st [] = st
+afterCalls st (c ∷ cs) = afterCalls (afterCall st c) cs
+
+-- the table that a good encoding wrote, and no step yet
+abbrev pub started : List ℕ → List ℕ → State
+started inst t = record { table = encodeCall inst t .table; derivation = [] }
+
+-- rs becomes rs′ by steps with these step words, each the step on the next pair
+pub data Derives (ds : List ℕ) : List Row → List ℕ → List Row → Type 0 where
+  stop : {rs : List Row} → Derives ds rs [] rs
+  step : {rs rs′ : List Row} {ws : List ℕ} (pr : Pair) → nextPair ds rs ≡ some pr → Derives ds (resolve ds pr rs) ws rs′
+      → Derives ds rs (pairWord pr ∷ ws) rs′

@@ -1,0 +1,24 @@
+-- The derivation that the planner makes is one that the checker accepts: from the same instance, in a work table of the same length.
+use Prim.Native.Nat.{ℕ}
+use mathlib.Core.Path.{_≡_}
+use mathlib.Core.List.{List}
+use mathlib.Core.Option.{none}
+use lib.ListN.{length}
+use Rattle.wcsp.specs.Row.{emptyWeight}
+use Rattle.wcsp.specs.Resolve.{nextPair}
+use Rattle.input.specs.Instance.{maxVariables}
+use Rattle.table.specs.Meaning.{tableRows}
+use Rattle.encoding.specs.Calls.{encodeCall}
+use Rattle.assignment.specs.Calls.{tableAssignment}
+use Rattle.checker.specs.Calls.{checkCall}
+use Rattle.calls.specs.Calls.{Call, started, afterCalls}
+use Rattle.calls.specs.Demand.{domainsOf}
+
+-- once no pair is left: every step of the derivation is replayed, and the claim of the rebuilt assignment with the empty row's weight holds
+abbrev pub DerivationAccepted : Type 0
+DerivationAccepted = (inst t : List ℕ) (calls : List Call) → encodeCall inst t .answer .number ≡ 0
+    → nextPair (domainsOf inst) (tableRows (afterCalls (started inst t) calls .table)) ≡ none
+    → (work : List ℕ) → length work ≡ length t
+    → checkCall inst (afterCalls (started inst t) calls .derivation) (tableAssignment (afterCalls (started inst t) calls .table))
+    (emptyWeight maxVariables (tableRows (afterCalls (started inst t) calls .table))) work .answer
+    ≡ record { number = 0; steps = length (afterCalls (started inst t) calls .derivation) }

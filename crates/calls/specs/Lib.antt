@@ -1,0 +1,4 @@
+-- Demand 3: lists of calls on one table, and what holds after every one of them.
+pub mod Calls
+pub mod Demand
+pub mod Derivation

@@ -1,0 +1,111 @@
+-- An accepted claim's cost is the least cost: the empty row's weight in rows that keep the instance is below every cost, and the claim
+-- is such a weight and the cost of an assignment. The table that the checker leaves holds rows that keep the instance.
+use Prim.Native.Nat.{ℕ}
+use native.Mathlib.Omega.{arith}
+use mathlib.Core.Path.{_≡_, refl, sym, ap}
+use mathlib.Core.Bool.{Bool, true, false, _&&_, cond}
+use mathlib.Core.List.{List}
+use lib.ListN.{length}
+use lib.Dec.{eqb}
+use borrow.Author.Tests.{eqb-true, eqb-false, eq-eqb}
+use Rattle.wcsp.specs.Row.{Row, emptyWeight}
+use Rattle.wcsp.specs.Entry.{cost}
+use Rattle.wcsp.proofs.Lists.{and-left, and-right}
+use Rattle.input.specs.Instance.{maxVariables, instanceFault, sizesOf, entriesOf, padded}
+use Rattle.input.specs.Calls.{isAssignment}
+use Rattle.input.proofs.Padding.{in-range-of}
+use Rattle.table.specs.Layout.{capacity, tableWords}
+use Rattle.table.proofs.Canonical.{writtenReadsBack}
+use Rattle.encoding.specs.Calls.{encodedRows, encodeCall}
+use Rattle.checker.specs.Replay.{Replayed, replay}
+use Rattle.checker.specs.Calls.{claimHolds, judged, checkCall}
+use Rattle.checker.specs.Theorems.{Accepted, AcceptedIsLeast, LeftConserves}
+use Rattle.checker.proofs.Kept.{Coded, coded, encoded-keeps, keeps-cost, keeps-below, keeps-holdable}
+use Rattle.checker.proofs.Replaying.{Left, replay-left}
+
+-- the replay that the check makes
+abbrev pub replayed : List ℕ → List ℕ → List ℕ → Replayed
+replayed inst t derivation =
+    replay (padded (sizesOf inst)) (capacity (length t) (length (sizesOf inst))) (encodedRows inst) 0 derivation
+
+-- once the encoding is good, the replay is judged
+pub check-judged : (inst derivation plan : List ℕ) (claimed : ℕ) (t : List ℕ) → encodeCall inst t .answer .number ≡ 0
+    → checkCall inst derivation plan claimed t ≡ judged inst plan claimed (length t) (replayed inst t derivation)
+unfolding checkCall
+check-judged inst derivation plan claimed t e = rw (eq-eqb (encodeCall inst t .answer .number) 0 e)
+
+-- the parts of a claim that holds
+record Claim (inst plan : List ℕ) (claimed : ℕ) (rs : List Row) : Type 0 where
+  assigned : isAssignment (sizesOf inst) plan ≡ true
+  empty : claimed ≡ emptyWeight maxVariables rs
+  costs : claimed ≡ cost (entriesOf inst) plan
+
+claim : (inst plan : List ℕ) (claimed : ℕ) (rs : List Row) → claimHolds inst plan claimed rs ≡ true → Claim inst plan claimed rs
+unfolding claimHolds
+claim inst plan claimed rs e =
+    let a = isAssignment (sizesOf inst) plan in
+    let b = eqb claimed (emptyWeight maxVariables rs) in
+    let c = eqb claimed (cost (entriesOf inst) plan) in
+    let two = and-left (a && b) c e in
+    record {
+      assigned = and-left a b two;
+      empty = eqb-true claimed (emptyWeight maxVariables rs) (and-right a b two);
+      costs = eqb-true claimed (cost (entriesOf inst) plan) (and-right (a && b) c e);
+    }
+
+replayed-left : (inst t derivation : List ℕ) → Coded inst t
+    → Left inst (capacity (length t) (length (sizesOf inst))) (replayed inst t derivation .rows)
+replayed-left inst t derivation c =
+    replay-left inst (c .accepted) (capacity (length t) (length (sizesOf inst))) derivation (encodedRows inst) 0
+    (record { keeps = encoded-keeps inst (c .accepted); fits = c .fits })
+
+claim-accepted : (inst plan : List ℕ) (claimed cap : ℕ) (rs : List Row) → instanceFault inst ≡ 0 → Left inst cap rs
+    → Claim inst plan claimed rs → Accepted inst plan claimed
+claim-accepted inst plan claimed cap rs a l k =
+    let r = in-range-of (sizesOf inst) plan (k .assigned) in
+    record {
+      inRange = r;
+      attained = sym (k .costs);
+      least =
+          record {
+            assignment = plan;
+            inRange = r;
+            attained = sym (k .costs);
+            least = λ p q. let b = keeps-below inst a rs (l .keeps) p q in rw (k .empty) b;
+          };
+    }
+
+pub acceptedIsLeast : AcceptedIsLeast
+unfolding checkCall judged
+acceptedIsLeast inst derivation plan claimed t e = coding (eqb (encodeCall inst t .answer .number) 0) refl e
+  where
+    done : Replayed
+    done = replayed inst t derivation
+
+    judging : Coded inst t → (a b : Bool) → claimHolds inst plan claimed (done .rows) ≡ b → eqb (done .number) 0 ≡ a
+        → cond a (cond b 0 7) (done .number) ≡ 0 → Accepted inst plan claimed
+    judging c true true f h n =
+        claim-accepted inst plan claimed (capacity (length t) (length (sizesOf inst))) (done .rows) (c .accepted)
+        (replayed-left inst t derivation c) (claim inst plan claimed (done .rows) f)
+    judging c true false f h n = absurd (omega arith)
+    judging c false b f h n = absurd (eqb-false (done .number) 0 h n)
+
+    coding : (a : Bool) → eqb (encodeCall inst t .answer .number) 0 ≡ a
+        → cond a (judged inst plan claimed (length t) done)
+        (record { answer = record { number = encodeCall inst t .answer .number; steps = 0 }; table = t }) .answer .number
+        ≡ 0 → Accepted inst plan claimed
+    coding true h n =
+        judging (coded inst t (eqb-true (encodeCall inst t .answer .number) 0 h)) (eqb (done .number) 0)
+        (claimHolds inst plan claimed (done .rows)) refl refl n
+    coding false h n = absurd (eqb-false (encodeCall inst t .answer .number) 0 h n)
+
+pub leftConserves : LeftConserves
+unfolding judged
+leftConserves inst derivation plan claimed t p e r =
+    let c = coded inst t e in
+    let rs = replayed inst t derivation .rows in
+    let l = replayed-left inst t derivation c in
+    let h = keeps-holdable inst (c .accepted) rs (l .keeps) (length t) (c .room) (l .fits) in
+    let left : checkCall inst derivation plan claimed t .table ≡ tableWords (length t) (sizesOf inst) rs
+    = ap (λ k. k .table) (check-judged inst derivation plan claimed t e) in
+    rw (left, writtenReadsBack (length t) (sizesOf inst) rs h .rows) (keeps-cost inst (c .accepted) rs (l .keeps) p r)

@@ -1,0 +1,4 @@
+pub mod Instances
+pub mod Kept
+pub mod Replaying
+pub mod Claims

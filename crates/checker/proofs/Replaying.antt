@@ -1,0 +1,127 @@
+-- A replay goes on only by permitted steps whose rows fit, so whatever step words it gets, the rows that it leaves keep the instance and fit.
+use Prim.Native.Nat.{ℕ, suc, _≤_}
+use mathlib.Core.Path.{_≡_, refl}
+use mathlib.Core.Bool.{Bool, true, false, _&&_, cond}
+use mathlib.Core.List.{List, [], _∷_}
+use mathlib.Core.Option.{Option, none, some}
+use lib.ListN.{length, getD}
+use lib.Dec.{ltb}
+use borrow.Author.Tests.{ltb-true, ltb-false, lt-ltb}
+use Rattle.wcsp.specs.Row.{Row}
+use Rattle.wcsp.specs.Rule.{permitted}
+use Rattle.wcsp.specs.Resolve.{Pair, noRow, resolve, Permitted}
+use Rattle.wcsp.proofs.Lists.{and-left, and-right}
+use Rattle.words.specs.declared.Word.{Word}
+use Rattle.words.specs.declared.Word.the-variants.{Head, Size, Binding, Cost, Signs, Weight, Step, Easting, Northing, Count, Unknown}
+use Rattle.words.specs.Meaning.{wordOf}
+use Rattle.input.specs.Instance.{instanceFault, sizesOf, padded}
+use Rattle.table.specs.Layout.{tooHeavy}
+use Rattle.stepping.specs.Step.{Stepping, refusing, stepping, allowed}
+use Rattle.checker.specs.Replay.{permittedPair, namedPair, replayOn, replayWord, replayNext, replay}
+use Rattle.checker.proofs.Kept.{Keeps, step-keeps}
+
+-- ---- the pair that a word names
+
+data PairView (ds : List ℕ) (rs : List Row) : Option Pair → Type 0 where
+  noPair : PairView ds rs none
+  onPair : {pr : Pair} → Permitted ds rs pr → PairView ds rs (some pr)
+
+module _ (ds : List ℕ) (rs : List Row) where
+  pair-view : (pr : Pair) → PairView ds rs (permittedPair ds rs pr)
+  unfolding permittedPair
+  pair-view pr = go _ refl
+    where
+      known : Bool
+      known = ltb (pr .variable) (length ds)
+
+      ordered : Bool
+      ordered = ltb (pr .first) (pr .second)
+
+      inTable : Bool
+      inTable = ltb (pr .second) (length rs)
+
+      may : Bool
+      may = permitted ds (pr .variable) (getD rs (pr .first) noRow .signs) (getD rs (pr .second) noRow .signs)
+
+      go : (b : Bool) → (known && ordered && inTable && may) ≡ b → PairView ds rs (cond b (some pr) none)
+      go true e =
+          let three = and-left (known && ordered && inTable) may e in
+          let two = and-left (known && ordered) inTable three in
+          onPair
+          (record {
+            ordered = ltb-true (pr .first) (pr .second) (and-right known ordered two);
+            inTable = ltb-true (pr .second) (length rs) (and-right (known && ordered) inTable three);
+            known = ltb-true (pr .variable) (length ds) (and-left known ordered two);
+            may = and-right (known && ordered && inTable) may e;
+          })
+      go false e = noPair
+
+  named-view : (w : Word) → PairView ds rs (namedPair ds rs w)
+  unfolding namedPair
+  named-view (Head n) = noPair
+  named-view (Size d) = noPair
+  named-view (Binding v a) = noPair
+  named-view (Cost c) = noPair
+  named-view (Signs k x) = noPair
+  named-view (Weight w) = noPair
+  named-view (Step s i j) = pair-view (record { variable = s; first = i; second = j })
+  named-view (Easting p) = noPair
+  named-view (Northing p) = noPair
+  named-view (Count k) = noPair
+  named-view Unknown = noPair
+
+  -- a permitted pair passes the test
+  pub permitted-passes : (pr : Pair) → Permitted ds rs pr → permittedPair ds rs pr ≡ some pr
+  unfolding permittedPair
+  permitted-passes pr m =
+      rw (lt-ltb (pr .variable) (length ds) (m .known), lt-ltb (pr .first) (pr .second) (m .ordered), lt-ltb (pr .second) (length rs) (m .inTable), m .may)
+
+-- ---- what a word comes to
+
+data WordView (ds : List ℕ) (cap : ℕ) (rs : List Row) : Stepping → Type 0 where
+  refused : {k : ℕ} → WordView ds cap rs (refusing k)
+  made : {pr : Pair} → Permitted ds rs pr → length (resolve ds pr rs) ≤ cap → WordView ds cap rs (stepping pr (resolve ds pr rs))
+
+module _ (ds : List ℕ) (cap : ℕ) (rs : List Row) where
+  allowed-view : (pr : Pair) → Permitted ds rs pr → WordView ds cap rs (allowed cap pr (resolve ds pr rs))
+  unfolding allowed
+  allowed-view pr m = go (tooHeavy rs′) (ltb cap (length rs′)) refl
+    where
+      rs′ : List Row
+      rs′ = resolve ds pr rs
+
+      go : (a b : Bool) → ltb cap (length rs′) ≡ b → WordView ds cap rs (cond a (refusing 11) (cond b (refusing 12) (stepping pr rs′)))
+      go true b e = refused
+      go false true e = refused
+      go false false e = made m (ltb-false cap (length rs′) e)
+
+  word-view : (w : ℕ) → WordView ds cap rs (replayWord ds cap rs w)
+  unfolding replayWord replayOn
+  word-view w = go _ (named-view ds rs (wordOf w))
+    where
+      go : (o : Option Pair) → PairView ds rs o → WordView ds cap rs (replayOn ds cap rs o)
+      go none noPair = refused
+      go (some pr) (onPair m) = allowed-view pr m
+
+-- ---- the whole replay
+
+pub record Left (inst : List ℕ) (cap : ℕ) (rs : List Row) : Type 0 where
+  pub keeps : Keeps inst rs
+  pub fits : length rs ≤ cap
+
+module _ (inst : List ℕ) (accepted : instanceFault inst ≡ 0) (cap : ℕ) where
+  pub replay-left : (ws : List ℕ) (rs : List Row) (k : ℕ) → Left inst cap rs
+      → Left inst cap (replay (padded (sizesOf inst)) cap rs k ws .rows)
+  unfolding replay replayNext
+  replay-left [] rs k l = l
+  replay-left (w ∷ ws) rs k l =
+      go _ (word-view (padded (sizesOf inst)) cap rs w) (λ rs′ l′. replay-left ws rs′ (suc k) l′)
+    where
+      go : (s : Stepping) → WordView (padded (sizesOf inst)) cap rs s
+          → ((rs′ : List Row) → Left inst cap rs′ → Left inst cap (replay (padded (sizesOf inst)) cap rs′ (suc k) ws .rows))
+          → Left inst cap
+          (replayNext (record { number = 6; steps = k; rows = rs }) (λ number. record { number = number; steps = k; rows = rs })
+          (λ rs′. replay (padded (sizesOf inst)) cap rs′ (suc k) ws) s .rows)
+      go (refusing n) refused ih = l
+      go (stepping pr rs′) (made m f) ih =
+          ih rs′ (record { keeps = step-keeps inst accepted rs (l .keeps) pr m; fits = f })

@@ -1,0 +1,4 @@
+-- Replay of a derivation, and the claim that it is to support.
+pub mod Replay
+pub mod Calls
+pub mod Theorems

@@ -1,0 +1,9 @@
+-- The laws of this crate that belong to no one function.
+pub mod Merging
+pub mod Coding
+pub mod Entries
+pub mod Instances
+pub mod Clearing
+pub mod Looking
+pub mod Writing
+pub mod Answering

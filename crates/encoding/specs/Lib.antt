@@ -1,0 +1,3 @@
+-- The encoding of an instance in a lent table.
+pub mod Calls
+pub mod Coding

@@ -1,0 +1,293 @@
+-- What a run keeps from turn to turn: a valid table of the same sizes and length, the run that is still to go, the words of the steps made in
+-- front of the slice, and what the next hunt may pass over.
+use Prim.Native.Nat.{ℕ, zero, suc, _+_, _-_, _*_, _<_, _≤_, min}
+use native.Mathlib.Omega.{arith}
+use native.Mathlib.Numerals.{add-one}
+use mathlib.Core.Path.{_≡_, refl, sym, ap, ap₂, _∙_}
+use mathlib.Core.Bool.{Bool, true, false}
+use mathlib.Core.List.{List, [], _∷_, _++_, append-assoc}
+use mathlib.Core.Option.{Option, none, some}
+use lib.ListN.{length, getD, drop, set, length-set, length-append}
+use lib.Seq.{drop-cons, set-at}
+use Rattle.wcsp.specs.Row.{Row, emptyWeight}
+use Rattle.wcsp.specs.Resolve.{Pair, pairIn, nextPair, resolve}
+use Rattle.wcsp.specs.Theorems.{Candidate}
+use Rattle.wcsp.proofs.NextPair.{nextIsLeast}
+use Rattle.wcsp.proofs.PairSearch.{PairFrom, pairFrom-some}
+use Rattle.wcsp.proofs.PairFound.{pairIn-is, pairIn-is-none}
+use Rattle.wcsp.proofs.AsWritten.{removed, gone, resolve-length}
+use Rattle.wcsp.proofs.Settled.{settled-kept}
+use Rattle.wcsp.proofs.Cleared.{cleared-kept}
+use Rattle.clause.specs.declared.Clause.{Clause}
+use Rattle.clause.specs.Packed.{Packed}
+use Rattle.table.specs.declared.Shape.{Shape}
+use Rattle.table.specs.Layout.{tableWords}
+use Rattle.table.specs.Meaning.{variablesOf, rowCount, tableSizes, tableRows, domains}
+use Rattle.table.specs.Valid.{validTable}
+use Rattle.table.specs.Check.{fullClause, shapeOf, capacityOf}
+use Rattle.table.proofs.Canonical.{validIsCanonical}
+use Rattle.hunt.specs.declared.Hunted.{Hunted}
+use Rattle.hunt.specs.declared.Hunted.the-variants.{Next, Nothing}
+use Rattle.hunt.specs.Hunt.{Cleared, Settled}
+use Rattle.stepping.specs.Step.{Stepping, finished, refusing, stepping, allowed, oneStep, pairWord}
+use Rattle.stepping.specs.Advance.{withRows, usedUp}
+use Rattle.resolution.specs.declared.Outcome.{Outcome}
+use Rattle.resolution.specs.declared.RunAnswer.{RunAnswer}
+use Rattle.resolution.specs.Run.{Ending, done, paused, stopped, Ran, after, atLimit, runRows}
+use Rattle.resolution.specs.Calls.{outcomeOf, runReturns, runCall}
+use Rattle.resolution.proofs.Bounding.{ready, find-room}
+use Rattle.resolution.proofs.Single.{fulls-packed, Hunts, hunt-none, hunt-some, permitted, Advances, Following, following, no-step, next-step, settled-start, cleared-start}
+
+-- ---- a run's next turn
+
+module _ (ds : List ℕ) (cap k : ℕ) (rs : List Row) (words : List ℕ) where
+  pub run-done : nextPair ds rs ≡ none → runRows ds cap k rs words ≡ record { ending = done; rows = rs; made = words }
+  unfolding runRows after atLimit
+  run-done e = go k
+    where
+      go : (k : ℕ) → runRows ds cap k rs words ≡ record { ending = done; rows = rs; made = words }
+      go zero = rw e
+      go (suc m) = rw (no-step ds cap rs e)
+
+  pub run-paused : (pr : Pair) → nextPair ds rs ≡ some pr → k ≡ 0 → runRows ds cap k rs words ≡ record { ending = paused; rows = rs; made = words }
+  unfolding runRows atLimit
+  run-paused pr e z = rw (z, e)
+
+  module _ (m : ℕ) (z : k ≡ suc m) where
+    pub run-stopped : (number : ℕ) → oneStep ds cap rs ≡ refusing number
+        → runRows ds cap k rs words ≡ record { ending = stopped number; rows = rs; made = words }
+    unfolding runRows after
+    run-stopped number e = rw (z, e)
+
+    pub run-on : (pr : Pair) (rs′ : List Row) → oneStep ds cap rs ≡ stepping pr rs′
+        → runRows ds cap k rs words ≡ runRows ds cap m rs′ (words ++ (pairWord pr ∷ []))
+    unfolding runRows after
+    run-on pr rs′ e = ap (λ n. runRows ds cap n rs words) z ∙ ap (after _ _ _) e
+
+-- ---- what is kept
+
+pub record Going (t₀ : List ℕ) (most : ℕ) (slice₀ t slice : List ℕ) (count bucket skip clear made : ℕ) : Type 0 where
+  pub words : List ℕ
+  pub valid : validTable t ≡ true
+  pub long : length t ≡ length t₀
+  pub sizes : tableSizes t ≡ tableSizes t₀
+  pub variables : variablesOf t ≡ variablesOf t₀
+  pub domained : domains t ≡ domains t₀
+  pub counted : count ≡ rowCount t
+  pub goes : runRows (domains t₀) (capacityOf t₀) most (tableRows t₀) [] ≡ runRows (domains t) (capacityOf t) (most - made) (tableRows t) words
+  pub steps : length words ≡ made
+  pub within : made ≤ most
+  pub room : most ≤ length slice₀
+  pub sliced : slice ≡ words ++ drop made slice₀
+  pub asLong : length slice ≡ length slice₀
+  pub known : bucket ≤ 12
+  pub settled : Settled (domains t) bucket (tableRows t)
+  pub cleared : Cleared (domains t) bucket skip clear (tableRows t)
+
+pub going-start : (t : List ℕ) (most : ℕ) (slice : List ℕ) (count : ℕ) → validTable t ≡ true → count ≡ rowCount t → most ≤ length slice
+    → Going t most slice t slice count 0 0 0 0
+going-start t most slice count v n h =
+    let z : most ≡ most - 0 = omega arith in
+    record {
+      words = [];
+      valid = v;
+      long = refl;
+      sizes = refl;
+      variables = refl;
+      domained = refl;
+      counted = n;
+      goes = ap (λ k. runRows (domains t) (capacityOf t) k (tableRows t) []) z;
+      steps = refl;
+      within = omega arith;
+      room = h;
+      sliced = refl;
+      asLong = refl;
+      known = omega arith;
+      settled = settled-start t;
+      cleared = cleared-start t;
+    }
+
+-- ---- the next pair's place, and what stays settled and cleared
+
+module _ (ds : List ℕ) (rs : List Row) (pr : Pair) (next : nextPair ds rs ≡ some pr) where
+  found : PairFrom ds (length ds) 0 rs pr
+  unfolding nextPair
+  found = pairFrom-some ds rs (length ds) 0 pr next
+
+  on : pr .variable ≡ found .step
+  on = omega (arith, found .pairHere .onVariable)
+
+  pub pair-here : pairIn ds (pr .variable) 0 rs ≡ some pr
+  pair-here =
+      let e : 0 + found .step ≡ pr .variable = omega (arith, on) in
+      rw e at (pairIn-is ds (0 + found .step) 0 rs pr (found .pairHere))
+
+  pub none-below : Settled ds (pr .variable) rs
+  none-below u h =
+      let e : 0 + u ≡ u = omega arith in
+      rw e at (pairIn-is-none ds (0 + u) 0 rs (found .earlier u (omega (arith, on))))
+
+used-removed : (pr : Pair) (rs : List Row) → usedUp pr rs ≡ removed pr rs
+unfolding removed gone
+used-removed pr rs = refl
+
+module _ (t : List ℕ) (v : validTable t ≡ true) (pr : Pair) (next : nextPair (domains t) (tableRows t) ≡ some pr) where
+  pub still-settled : Settled (domains t) (pr .variable) (resolve (domains t) pr (tableRows t))
+  still-settled u h =
+      settled-kept (ready t v .valid) (nextIsLeast (domains t) (tableRows t) pr .0 next .is) u h (none-below (domains t) (tableRows t) pr next u h)
+
+  pub still-cleared : (old : ℕ) → old ≡ length (tableRows t) - usedUp pr (tableRows t)
+      → Cleared (domains t) (pr .variable) (pr .first) old (resolve (domains t) pr (tableRows t))
+  still-cleared old e =
+      let r : old ≡ length (tableRows t) - removed pr (tableRows t) = e ∙ ap (λ k. length (tableRows t) - k) (used-removed pr (tableRows t)) in
+      let l = resolve-length (ready t v .valid) (permitted t v pr next) in
+      (omega arith, rw r (cleared-kept (ready t v .valid) (pair-here (domains t) (tableRows t) pr next) .clear))
+
+-- ---- the word in its place
+
+pub word-put : (words slice₀ : List ℕ) (made w : ℕ) → length words ≡ made → made < length slice₀
+    → set (words ++ drop made slice₀) made w ≡ (words ++ (w ∷ [])) ++ drop (suc made) slice₀
+word-put words slice₀ made w e h =
+    ap (λ l. set (words ++ l) made w) (drop-cons slice₀ made 0 h)
+    ∙ set-at words (getD slice₀ made 0) (drop (suc made) slice₀) w made e
+    ∙ sym (append-assoc words (w ∷ []) (drop (suc made) slice₀))
+
+-- ---- a turn
+
+module _ {t₀ : List ℕ} {most : ℕ} {slice₀ t slice : List ℕ} {count bucket skip clear made : ℕ}
+    (g : Going t₀ most slice₀ t slice count bucket skip clear made) where
+  -- the whole run, told from here
+  abbrev whole : Ran
+  whole = runRows (domains t₀) (capacityOf t₀) most (tableRows t₀) []
+
+  pub going-canonical : t ≡ withRows t₀ (tableRows t)
+  going-canonical =
+      validIsCanonical t (g .valid) .words ∙ ap₂ (λ n s. tableWords n s (tableRows t)) (g .long) (g .sizes)
+
+  -- what the run must give back
+  abbrev pub Gives : RunAnswer → List ℕ → List ℕ → Type 0
+  Gives r t′ slice′ = (r ≡ runReturns t₀ slice₀ whole .answer) × (t′ ≡ runReturns t₀ slice₀ whole .table) × (slice′ ≡ runReturns t₀ slice₀ whole .slice)
+
+  gives : (e : Ending) (r : RunAnswer) (t′ : List ℕ) → whole ≡ record { ending = e; rows = tableRows t; made = g .words }
+      → r ≡ record { outcome = outcomeOf e; steps = made; bound = emptyWeight 12 (tableRows t) } → t′ ≡ t → Gives r t′ slice
+  gives e r t′ w a b =
+      let s = g .steps in
+      (rw (w, s) a, rw w (b ∙ going-canonical), rw (w, s) (g .sliced))
+
+  -- what the calls of a turn ask for, with the front and the full signs of the first table
+  module _ {base : ℕ} (b : base ≡ variablesOf t₀ + 2) {fulls : Clause} (f : fulls ≡ fullClause (domains t₀)) where
+    base-here : base ≡ variablesOf t + 2
+    base-here = b ∙ ap (λ n. n + 2) (sym (g .variables))
+
+    fulls-here : fulls ≡ fullClause (domains t)
+    fulls-here = f ∙ ap fullClause (sym (g .domained))
+
+    pub hunt-asks : (base + 5 * count ≤ length t) × Packed fulls × (bucket ≤ 12)
+    hunt-asks = (
+      find-room t (g .valid) base count base-here (g .counted),
+      fulls-packed t (g .valid) base count base-here (g .counted) fulls fulls-here,
+      g .known,
+    )
+
+    pub ended-asks : (validTable t ≡ true) × (base ≡ variablesOf t + 2) × (count ≡ rowCount t)
+    ended-asks = (g .valid, base-here, g .counted)
+
+    -- the same once a refusal left the table as it was
+    pub refused-asks : {t′ : List ℕ} → t′ ≡ t → (validTable t′ ≡ true) × (base ≡ variablesOf t′ + 2) × (count ≡ rowCount t′)
+    refused-asks e = rw e ended-asks
+
+    pub shaped : {n : ℕ} → n ≡ variablesOf t₀ → _≡_ {A = Shape} (record { variables = n; count = count; fulls = fulls }) (shapeOf t)
+    shaped e =
+        let n = e ∙ sym (g .variables) in
+        let k = g .counted in
+        let u = fulls-here in
+        λ i. record { variables = n i; count = k i; fulls = u i }
+
+    module _ {found : Hunted} (answer : Hunts t base count fulls bucket skip clear found) where
+      pub none-left : found ≡ Nothing → nextPair (domains t) (tableRows t) ≡ none
+      none-left = hunt-none t (g .valid) base count base-here (g .counted) fulls fulls-here bucket skip clear (g .settled) (g .cleared) found answer
+
+      pub one-next : {v i j : ℕ} → found ≡ Next v i j → nextPair (domains t) (tableRows t) ≡ some (record { variable = v; first = i; second = j })
+      one-next {v} {i} {j} =
+          hunt-some t (g .valid) base count base-here (g .counted) fulls fulls-here bucket skip clear (g .settled) (g .cleared) found answer v i j
+
+  pub gives-done : nextPair (domains t) (tableRows t) ≡ none → (r : RunAnswer)
+      → r ≡ record { outcome = Outcome.Done; steps = made; bound = emptyWeight 12 (tableRows t) } → Gives r t slice
+  unfolding outcomeOf
+  gives-done e r a = gives done r t (g .goes ∙ run-done (domains t) (capacityOf t) (most - made) (tableRows t) (g .words) e) a refl
+
+  module _ (pr : Pair) (next : nextPair (domains t) (tableRows t) ≡ some pr) where
+    pub gives-paused : made ≡ most → (r : RunAnswer)
+        → r ≡ record { outcome = Outcome.Paused; steps = made; bound = emptyWeight 12 (tableRows t) } → Gives r t slice
+    unfolding outcomeOf
+    gives-paused h r a =
+        let z : most - made ≡ 0 = omega arith in
+        gives paused r t (g .goes ∙ run-paused (domains t) (capacityOf t) (most - made) (tableRows t) (g .words) pr next z) a refl
+
+    module _ (h : made ≡ most → ⊥) where
+      one-left : most - made ≡ suc (most - (made + 1))
+      one-left = omega (arith, g .within, h)
+
+      pub gives-refused : (k : ℕ) (t′ : List ℕ)
+          → (allowed (capacityOf t) pr (resolve (domains t) pr (tableRows t)) ≡ refusing k) × (t′ ≡ t) → (r : RunAnswer) (number : ℕ) → number ≡ k
+          → r ≡ record { outcome = Outcome.Refused number; steps = made; bound = emptyWeight 12 (tableRows t′) } → Gives r t′ slice
+      unfolding outcomeOf
+      gives-refused k t′ (a, b) r number q p =
+          gives (stopped k) r t′
+          (g .goes ∙ run-stopped (domains t) (capacityOf t) (most - made) (tableRows t) (g .words) (most - (made + 1)) one-left k
+          (next-step (domains t) (capacityOf t) (tableRows t) pr next ∙ a))
+          (p ∙ ap₂ (λ m u. record { outcome = Outcome.Refused m; steps = made; bound = emptyWeight 12 (tableRows u) }) q b) b
+
+      pub going-on : (now old : ℕ) (t′ : List ℕ) → Advances t pr now old t′ → (w : ℕ) → w ≡ pairWord pr
+          → Going t₀ most slice₀ t′ (set slice made w) now (pr .variable) (pr .first) old (made + 1)
+      going-on now old t′ a w p =
+          let f = following t (g .valid) pr next now old t′ a in
+          let one : made + 1 ≡ suc made = omega arith in
+          let fits : made < length slice₀ = omega (arith, g .within, g .room, h) in
+          let d = f .domained in
+          let rows = f .rows in
+          let c = f .capacious in
+          let sliced = g .sliced in
+          let e : oneStep (domains t) (capacityOf t) (tableRows t) ≡ stepping pr (resolve (domains t) pr (tableRows t))
+          = next-step (domains t) (capacityOf t) (tableRows t) pr next ∙ a .is in
+          record {
+            words = g .words ++ (w ∷ []);
+            valid = f .valid;
+            long = f .long ∙ g .long;
+            sizes = f .sizes ∙ g .sizes;
+            variables = f .variables ∙ g .variables;
+            domained = d ∙ g .domained;
+            counted = a .counted ∙ sym (f .counted);
+            goes = g .goes ∙ rw (d, rows, c, p)
+                (run-on (domains t) (capacityOf t) (most - made) (tableRows t) (g .words) (most - (made + 1)) one-left pr
+                (resolve (domains t) pr (tableRows t)) e);
+            steps = length-append (g .words) (w ∷ []) ∙ omega (arith, g .steps);
+            within = omega (arith, g .within, h);
+            room = g .room;
+            sliced = rw (sliced, one) (word-put (g .words) slice₀ made w (g .steps) fits);
+            asLong = length-set slice made w ∙ g .asLong;
+            known = omega (arith, permitted t (g .valid) pr next .known, ready t (g .valid) .twelve);
+            settled = rw (d, rows) (still-settled t (g .valid) pr next);
+            cleared = rw (d, rows) (still-cleared t (g .valid) pr next old (a .stayed));
+          }
+
+-- ---- the run call
+
+-- what a run call must give back
+abbrev pub Ran-as : List ℕ → ℕ → List ℕ → RunAnswer → List ℕ → List ℕ → Type 0
+Ran-as t limit slice r t′ slice′ =
+    (r ≡ runCall t limit slice .answer) × (t′ ≡ runCall t limit slice .table) × (slice′ ≡ runCall t limit slice .slice)
+
+pub ran-invalid : (t : List ℕ) (limit : ℕ) (slice : List ℕ) → validTable t ≡ false
+    → Ran-as t limit slice (record { outcome = Outcome.Refused 9; steps = 0; bound = 0 }) t slice
+unfolding runCall
+ran-invalid t limit slice e = (rw e, rw e, rw e)
+
+pub ran-valid : (t : List ℕ) (limit : ℕ) (slice : List ℕ) → validTable t ≡ true → (most : ℕ) → most ≡ min limit (length slice)
+    → (r : RunAnswer) (t′ slice′ : List ℕ)
+    → (r ≡ runReturns t slice (runRows (domains t) (capacityOf t) most (tableRows t) []) .answer)
+    × (t′ ≡ runReturns t slice (runRows (domains t) (capacityOf t) most (tableRows t) []) .table)
+    × (slice′ ≡ runReturns t slice (runRows (domains t) (capacityOf t) most (tableRows t) []) .slice)
+    → Ran-as t limit slice r t′ slice′
+unfolding runCall
+ran-valid t limit slice v most m r t′ slice′ p = rw (v, ← m) p

@@ -1,0 +1,4 @@
+-- What the step call's and the run's proofs rest on: the empty row's weight, single steps on a valid table, and what a run keeps from turn to turn.
+pub mod Bounding
+pub mod Single
+pub mod Going

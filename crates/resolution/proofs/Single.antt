@@ -1,0 +1,345 @@
+-- A single step on a valid table: what the test of the table and the hunt answer, and what the step leaves, is the step call's definition.
+use Prim.Native.Nat.{ℕ, zero, suc, _+_, _-_, _*_, _<_, _≤_}
+use native.Mathlib.Omega.{arith}
+use mathlib.Core.Path.{_≡_, refl, sym, ap, ap₂, _∙_}
+use mathlib.Core.Bool.{Bool, true, false, cond}
+use mathlib.Core.List.{List, []}
+use mathlib.Core.Option.{Option, none, some}
+use lib.ListN.{length, drop}
+use lib.Dec.{ltb}
+use borrow.Author.Tests.{ltb-false}
+use Rattle.wcsp.specs.Row.{Row, ValidRows}
+use Rattle.wcsp.specs.Resolve.{Pair, nextPair, resolve, Permitted}
+use Rattle.wcsp.proofs.NextPair.{next-permitted}
+use Rattle.wcsp.proofs.Validity.{stepValid}
+use Rattle.clause.specs.declared.Clause.{Clause}
+use Rattle.clause.specs.Packed.{Packed, FullSigns}
+use Rattle.input.specs.Instance.{padded}
+use Rattle.table.specs.declared.Shape.{Shape}
+use Rattle.table.specs.declared.Checked.{Checked}
+use Rattle.table.specs.declared.Checked.the-variants.{Table, Invalid}
+use Rattle.table.specs.Layout.{capacity, tableWords, tooHeavy}
+use Rattle.table.specs.Meaning.{variablesOf, rowCount, rowsFrom, tableSizes, tableRows, domains}
+use Rattle.table.specs.Valid.{validTable}
+use Rattle.table.specs.Check.{fullClause, shapeOf, checkTable, capacityOf, Holdable, ReadsBack}
+use Rattle.table.proofs.Canonical.{passed, validIsCanonical, writtenReadsBack}
+use Rattle.table.proofs.Finishing.{valid-variables, valid-count}
+use Rattle.hunt.specs.declared.Hunted.{Hunted}
+use Rattle.hunt.specs.declared.Hunted.the-variants.{Next, Nothing}
+use Rattle.hunt.specs.Hunt.{huntedOf, Cleared, Settled}
+use Rattle.stepping.specs.declared.Advanced.{Advanced}
+use Rattle.stepping.specs.declared.Advanced.the-variants.{Made, Refused}
+use Rattle.stepping.specs.Step.{Stepping, finished, refusing, stepping, allowed, onPair, oneStep, pairWord}
+use Rattle.stepping.specs.Advance.{withRows, usedUp, advanceReturns, advanceCall}
+use Rattle.stepping.proofs.Surveying.{ready-shape}
+use Rattle.resolution.specs.declared.StepAnswer.{StepAnswer}
+use Rattle.resolution.specs.Calls.{stepReturns, stepCall}
+use Rattle.resolution.proofs.Bounding.{ready, find-room}
+
+-- ---- the test of the table
+
+module _ (t : List ℕ) (checked : Checked) (e : checked ≡ checkTable t) where
+  pub table-valid : (shape : Shape) → checked ≡ Table shape → (validTable t ≡ true) × (shape ≡ shapeOf t)
+  unfolding checkTable
+  table-valid shape q = go (validTable t) refl (sym q ∙ e)
+    where
+      shape-in : Checked → Shape
+      shape-in (Table s) = s
+      shape-in Invalid = shape
+
+      go : (b : Bool) → validTable t ≡ b → Table shape ≡ cond b (Table (shapeOf t)) Invalid → (validTable t ≡ true) × (shape ≡ shapeOf t)
+      go true v r = (v, ap shape-in r)
+      go false v r = absurd (let z : _≡_ {A = ℕ} 0 1 = cc in omega arith)
+
+  pub table-invalid : checked ≡ Invalid → validTable t ≡ false
+  unfolding checkTable
+  table-invalid q = go (validTable t) refl (sym q ∙ e)
+    where
+      go : (b : Bool) → validTable t ≡ b → Invalid ≡ cond b (Table (shapeOf t)) Invalid → b ≡ false
+      go true v r = absurd (let z : _≡_ {A = ℕ} 0 1 = cc in omega arith)
+      go false v r = refl
+
+-- ---- the hunt
+
+nothing-none : (o : Option Pair) → huntedOf o ≡ Nothing → o ≡ none
+unfolding huntedOf
+nothing-none none e = refl
+nothing-none (some pr) e = cc
+
+next-some : (o : Option Pair) (a b c : ℕ) → huntedOf o ≡ Next a b c → o ≡ some (record { variable = a; first = b; second = c })
+unfolding huntedOf
+next-some none a b c e = cc
+next-some (some pr) a b c e = ap some (λ i. record { variable = fst (e i); first = snd (e i); second = trd (e i) })
+  where
+    fst : Hunted → ℕ
+    fst (Next x y z) = x
+    fst Nothing = 0
+
+    snd : Hunted → ℕ
+    snd (Next x y z) = y
+    snd Nothing = 0
+
+    trd : Hunted → ℕ
+    trd (Next x y z) = z
+    trd Nothing = 0
+
+-- what a hunt from bucket s answers of the rows in a table
+abbrev pub Hunts : List ℕ → ℕ → ℕ → Clause → ℕ → ℕ → ℕ → Hunted → Type 0
+Hunts t base count fulls s skip clear found =
+    (ds : List ℕ) → FullSigns fulls ds → ValidRows ds (rowsFrom count (drop base t)) → Settled ds s (rowsFrom count (drop base t))
+    → Cleared ds s skip clear (rowsFrom count (drop base t)) → found ≡ huntedOf (nextPair ds (rowsFrom count (drop base t)))
+
+module _ (t : List ℕ) (v : validTable t ≡ true) (base count : ℕ) (b : base ≡ variablesOf t + 2) (n : count ≡ rowCount t) (fulls : Clause)
+    (f : fulls ≡ fullClause (domains t)) where
+  pub fulls-packed : Packed fulls
+  fulls-packed = rw f (ready t v .packed)
+
+  rows-read : rowsFrom count (drop base t) ≡ tableRows t
+  unfolding tableRows
+  rows-read = ap₂ (λ m k. rowsFrom m (drop k t)) n b
+
+  module _ (s skip clear : ℕ) (settled : Settled (domains t) s (tableRows t)) (cleared : Cleared (domains t) s skip clear (tableRows t)) (found : Hunted)
+      (answer : Hunts t base count fulls s skip clear found) where
+    hunted : found ≡ huntedOf (nextPair (domains t) (tableRows t))
+    hunted =
+        let r = ready t v in
+        let signs : FullSigns fulls (domains t) = rw f (r .fulls) in
+        let a = rw rows-read at (answer (domains t) signs) in
+        a (r .valid) settled cleared
+
+    pub hunt-none : found ≡ Nothing → nextPair (domains t) (tableRows t) ≡ none
+    hunt-none q = nothing-none (nextPair (domains t) (tableRows t)) (sym hunted ∙ q)
+
+    pub hunt-some : (a i j : ℕ) → found ≡ Next a i j → nextPair (domains t) (tableRows t) ≡ some (record { variable = a; first = i; second = j })
+    hunt-some a i j q = next-some (nextPair (domains t) (tableRows t)) a i j (sym hunted ∙ q)
+
+-- before the first step nothing is settled and nothing was tried
+pub settled-start : (t : List ℕ) → Settled (domains t) 0 (tableRows t)
+settled-start t u h = absurd (omega arith)
+
+pub cleared-start : (t : List ℕ) → Cleared (domains t) 0 0 0 (tableRows t)
+cleared-start t = (omega arith, λ k l h m n. absurd (omega arith))
+
+-- the first hunt in a table, with the shape that the test gave
+module _ (t : List ℕ) (v : validTable t ≡ true) (shape : Shape) (e : shape ≡ shapeOf t) where
+  pub few-variables : shape .variables ≤ 12
+  few-variables = ready-shape t v shape e .few
+
+  pub shape-front : shape .variables + 2 ≡ variablesOf t + 2
+  shape-front = ap (λ s. s .variables + 2) e
+
+  pub shape-count : shape .count ≡ rowCount t
+  shape-count = ap (λ s. s .count) e
+
+  pub shape-fulls : shape .fulls ≡ fullClause (domains t)
+  shape-fulls = ap (λ s. s .fulls) e
+
+  pub first-asks : (shape .variables + 2 + 5 * shape .count ≤ length t) × Packed (shape .fulls) × (0 ≤ 12)
+  first-asks = (
+    find-room t v (shape .variables + 2) (shape .count) shape-front shape-count,
+    fulls-packed t v (shape .variables + 2) (shape .count) shape-front shape-count (shape .fulls) shape-fulls,
+    omega arith,
+  )
+
+  module _ {found : Hunted} (answer : Hunts t (shape .variables + 2) (shape .count) (shape .fulls) 0 0 0 found) where
+    pub first-none : found ≡ Nothing → nextPair (domains t) (tableRows t) ≡ none
+    first-none =
+        hunt-none t v (shape .variables + 2) (shape .count) shape-front shape-count (shape .fulls) shape-fulls 0 0 0
+        (settled-start t) (cleared-start t) found answer
+
+    pub first-some : (a i j : ℕ) → found ≡ Next a i j → nextPair (domains t) (tableRows t) ≡ some (record { variable = a; first = i; second = j })
+    first-some =
+        hunt-some t v (shape .variables + 2) (shape .count) shape-front shape-count (shape .fulls) shape-fulls 0 0 0
+        (settled-start t) (cleared-start t) found answer
+
+-- ---- the step on a pair
+
+-- what is known of a pair's numbers: as a step word takes them
+pub record Numbers (rows v i j : ℕ) : Type 0 where
+  pub known : v < 12
+  pub ordered : i < j
+  pub second : j < rows
+  pub most : rows ≤ 4096
+
+module _ (t : List ℕ) (v : validTable t ≡ true) (pr : Pair) (next : nextPair (domains t) (tableRows t) ≡ some pr) where
+  pub permitted : Permitted (domains t) (tableRows t) pr
+  permitted = next-permitted (domains t) (tableRows t) pr next
+
+  pub numbers : Numbers (rowCount t) (pr .variable) (pr .first) (pr .second)
+  unfolding capacity
+  numbers =
+      let r = ready t v in
+      record {
+        known = omega (arith, permitted .known, r .twelve);
+        ordered = permitted .ordered;
+        second = omega (arith, permitted .inTable, r .long);
+        most = omega (arith, passed t v .fits);
+      }
+
+-- what the verdict on a step's finished rows says
+data Verdict (cap : ℕ) (pr : Pair) (rs : List Row) : Stepping → Type 0 where
+  refused : (k : ℕ) → Verdict cap pr rs (refusing k)
+  made : tooHeavy rs ≡ false → length rs ≤ cap → Verdict cap pr rs (stepping pr rs)
+
+verdict : (cap : ℕ) (pr : Pair) (rs : List Row) → Verdict cap pr rs (allowed cap pr rs)
+unfolding allowed
+verdict cap pr rs = go (tooHeavy rs) refl (ltb cap (length rs)) refl
+  where
+    go : (a : Bool) → tooHeavy rs ≡ a → (b : Bool) → ltb cap (length rs) ≡ b → Verdict cap pr rs (cond a (refusing 11) (cond b (refusing 12) (stepping pr rs)))
+    go true e b f = refused 11
+    go false e true f = refused 12
+    go false e false f = made e (ltb-false cap (length rs) f)
+
+-- a step that was made: its rows fit, and so many of them were there before
+pub record Advances (t : List ℕ) (pr : Pair) (now old : ℕ) (t′ : List ℕ) : Type 0 where
+  pub is : allowed (capacityOf t) pr (resolve (domains t) pr (tableRows t)) ≡ stepping pr (resolve (domains t) pr (tableRows t))
+  pub light : tooHeavy (resolve (domains t) pr (tableRows t)) ≡ false
+  pub fits : length (resolve (domains t) pr (tableRows t)) ≤ capacityOf t
+  pub counted : now ≡ length (resolve (domains t) pr (tableRows t))
+  pub stayed : old ≡ length (tableRows t) - usedUp pr (tableRows t)
+  pub table : t′ ≡ withRows t (resolve (domains t) pr (tableRows t))
+
+now-in : Advanced → ℕ
+now-in (Made a b) = a
+now-in (Refused k) = k
+
+old-in : Advanced → ℕ
+old-in (Made a b) = b
+old-in (Refused k) = k
+
+pub not-made : {x : Advanced} {a b : ℕ} → x ≡ Made a b → (k : ℕ) → x ≡ Refused k → 0 ≡ k
+not-made p k q = absurd (let z : _≡_ {A = ℕ} 0 1 = cc in omega arith)
+
+pub one-number : {x : Advanced} {m : ℕ} → x ≡ Refused m → (k : ℕ) → x ≡ Refused k → m ≡ k
+unfolding now-in
+one-number p k q = ap now-in (sym p ∙ q)
+
+module _ (t : List ℕ) (pr : Pair) (answer : Advanced) (t′ : List ℕ) (e : answer ≡ advanceCall t pr .answer) (f : t′ ≡ advanceCall t pr .table) where
+  pub advance-made : (now old : ℕ) → answer ≡ Made now old → Advances t pr now old t′
+  unfolding advanceCall advanceReturns now-in old-in
+  advance-made now old q = go (allowed (capacityOf t) pr rs′) refl (verdict (capacityOf t) pr rs′) e f
+    where
+      rs′ : List Row
+      rs′ = resolve (domains t) pr (tableRows t)
+
+      was : ℕ
+      was = length (tableRows t) - usedUp pr (tableRows t)
+
+      go : (s : Stepping) → allowed (capacityOf t) pr rs′ ≡ s → Verdict (capacityOf t) pr rs′ s → answer ≡ advanceReturns t was s .answer
+          → t′ ≡ advanceReturns t was s .table → Advances t pr now old t′
+      go (refusing k) p (refused k′) a b = absurd (let z : _≡_ {A = ℕ} 0 1 = cc in omega arith)
+      go (stepping x y) p (made h l) a b =
+          record { is = p; light = h; fits = l; counted = ap now-in (sym q ∙ a); stayed = ap old-in (sym q ∙ a); table = b }
+
+  pub advance-refused : (k : ℕ) → answer ≡ Refused k
+      → (allowed (capacityOf t) pr (resolve (domains t) pr (tableRows t)) ≡ refusing k) × (t′ ≡ t)
+  unfolding advanceCall advanceReturns now-in
+  advance-refused k q = go (allowed (capacityOf t) pr rs′) refl (verdict (capacityOf t) pr rs′) e f
+    where
+      rs′ : List Row
+      rs′ = resolve (domains t) pr (tableRows t)
+
+      was : ℕ
+      was = length (tableRows t) - usedUp pr (tableRows t)
+
+      go : (s : Stepping) → allowed (capacityOf t) pr rs′ ≡ s → Verdict (capacityOf t) pr rs′ s → answer ≡ advanceReturns t was s .answer
+          → t′ ≡ advanceReturns t was s .table → (allowed (capacityOf t) pr rs′ ≡ refusing k) × (t′ ≡ t)
+      go (refusing m) p (refused m′) a b = (p ∙ ap refusing (ap now-in (sym a ∙ q)), b)
+      go (stepping x y) p (made h l) a b = absurd (let z : _≡_ {A = ℕ} 0 1 = cc in omega arith)
+
+-- the table that such a step leaves
+pub record Following (t t′ : List ℕ) (rs : List Row) : Type 0 where
+  pub valid : validTable t′ ≡ true
+  pub long : length t′ ≡ length t
+  pub sizes : tableSizes t′ ≡ tableSizes t
+  pub rows : tableRows t′ ≡ rs
+  pub variables : variablesOf t′ ≡ variablesOf t
+  pub domained : domains t′ ≡ domains t
+  pub capacious : capacityOf t′ ≡ capacityOf t
+  pub counted : rowCount t′ ≡ length rs
+
+module _ (t : List ℕ) (v : validTable t ≡ true) (pr : Pair) (next : nextPair (domains t) (tableRows t) ≡ some pr) (now old : ℕ) (t′ : List ℕ)
+    (a : Advances t pr now old t′) where
+  rs′ : List Row
+  rs′ = resolve (domains t) pr (tableRows t)
+
+  holdable : Holdable (length t) (tableSizes t) rs′
+  unfolding rs′ domains
+  holdable =
+      let h = validIsCanonical t v .holdable in
+      let n = valid-variables t v in
+      record {
+        some = h .some;
+        few = h .few;
+        sizes = h .sizes;
+        room = h .room;
+        fits = rw n (a .fits);
+        valid = stepValid (domains t) (tableRows t) pr (ready t v .valid) (permitted t v pr next);
+        light = a .light;
+      }
+
+  pub following : Following t t′ (resolve (domains t) pr (tableRows t))
+  unfolding rs′ domains
+  following =
+      let back : ReadsBack (length t) (tableSizes t) rs′ = writtenReadsBack (length t) (tableSizes t) rs′ holdable in
+      let e : t′ ≡ tableWords (length t) (tableSizes t) rs′ = a .table in
+      let good : validTable t′ ≡ true = rw e (back .valid) in
+      let long : length t′ ≡ length t = rw e (back .long) in
+      let sizes : tableSizes t′ ≡ tableSizes t = rw e (back .sizes) in
+      let rows : tableRows t′ ≡ rs′ = rw e (back .rows) in
+      let n : variablesOf t′ ≡ variablesOf t = sym (valid-variables t′ good) ∙ ap length sizes ∙ valid-variables t v in
+      record {
+        valid = good;
+        long = long;
+        sizes = sizes;
+        rows = rows;
+        variables = n;
+        domained = ap padded sizes;
+        capacious = ap₂ capacity long n;
+        counted = sym (valid-count t′ good) ∙ ap length rows;
+      }
+
+-- ---- the step call
+
+pub no-step : (ds : List ℕ) (cap : ℕ) (rs : List Row) → nextPair ds rs ≡ none → oneStep ds cap rs ≡ finished
+unfolding oneStep onPair
+no-step ds cap rs e = rw e
+
+pub next-step : (ds : List ℕ) (cap : ℕ) (rs : List Row) (pr : Pair) → nextPair ds rs ≡ some pr → oneStep ds cap rs ≡ allowed cap pr (resolve ds pr rs)
+unfolding oneStep onPair
+next-step ds cap rs pr e = rw e
+
+-- what a step call must give back
+abbrev pub Called : List ℕ → StepAnswer → List ℕ → Type 0
+Called t answer t′ = (answer ≡ stepCall t .answer) × (t′ ≡ stepCall t .table)
+
+pub called-invalid : (t : List ℕ) → validTable t ≡ false → Called t (StepAnswer.Refused 9) t
+unfolding stepCall
+called-invalid t e = (rw e, rw e)
+
+module _ (t : List ℕ) (v : validTable t ≡ true) where
+  called : (s : Stepping) → oneStep (domains t) (capacityOf t) (tableRows t) ≡ s → stepCall t ≡ stepReturns t s
+  unfolding stepCall
+  called s e = rw (v, e)
+
+  pub called-done : nextPair (domains t) (tableRows t) ≡ none → Called t StepAnswer.Done t
+  unfolding stepReturns
+  called-done e =
+      let c = called finished (no-step (domains t) (capacityOf t) (tableRows t) e) in
+      (sym (ap (λ r. r .answer) c), sym (ap (λ r. r .table) c))
+
+  module _ (pr : Pair) (next : nextPair (domains t) (tableRows t) ≡ some pr) (answer : Advanced) (t′ : List ℕ)
+      (e : answer ≡ advanceCall t pr .answer) (f : t′ ≡ advanceCall t pr .table) where
+    pub called-refused : (k : ℕ) → answer ≡ Refused k → Called t (StepAnswer.Refused k) t′
+    unfolding stepReturns
+    called-refused k q =
+        let (a, b) = advance-refused t pr answer t′ e f k q in
+        let c = called (refusing k) (next-step (domains t) (capacityOf t) (tableRows t) pr next ∙ a) in
+        (sym (ap (λ r. r .answer) c), b ∙ sym (ap (λ r. r .table) c))
+
+    pub called-made : (now old w : ℕ) → answer ≡ Made now old → w ≡ pairWord pr → Called t (StepAnswer.Stepped w) t′
+    unfolding stepReturns
+    called-made now old w q p =
+        let a = advance-made t pr answer t′ e f now old q in
+        let c = called (stepping pr (resolve (domains t) pr (tableRows t))) (next-step (domains t) (capacityOf t) (tableRows t) pr next ∙ a .is) in
+        (ap StepAnswer.Stepped p ∙ sym (ap (λ r. r .answer) c), a .table ∙ sym (ap (λ r. r .table) c))

@@ -1,0 +1,156 @@
+// Steps and runs on a table that the caller lends.
+ghost use mathlib.Core.Path.{_≡_};
+ghost use mathlib.Core.Bool.{true};
+ghost use mathlib.Core.List.{[]};
+ghost use Prim.Native.Nat.{ℕ, _+_, _≤_, min};
+ghost use lib.ListN.{length};
+ghost use Rattle.wcsp.specs.Row.{emptyWeight};
+ghost use Rattle.input.specs.Instance.{maxVariables};
+ghost use Rattle.table.specs.Meaning.{variablesOf, rowCount, tableRows, domains};
+ghost use Rattle.table.specs.Valid.{validTable};
+ghost use Rattle.table.specs.Check.{shapeOf, capacityOf};
+ghost use Rattle.stepping.specs.declared.Advanced.{Advanced};
+ghost use Rattle.resolution.specs.Run.{runRows};
+ghost use Rattle.resolution.specs.Calls.{stepCall, runReturns, runCall};
+use clause::Clause;
+use hunt::Hunted;
+use rows::Found;
+use stepping::Advanced;
+use table::Checked;
+use table::Shape;
+
+// What a step call answers: the number of a refusal, done, or the step word.
+pub enum StepAnswer {
+    Refused(u32),
+    Done,
+    Stepped(u32),
+}
+
+// How a run ended: no pair left, limit or end of slice reached, or the number of a refusal.
+pub enum Outcome {
+    Done,
+    Paused,
+    Refused(u32),
+}
+
+// A run's outcome, the steps made, and the empty row's weight in the table it leaves.
+pub struct RunAnswer {
+    pub outcome: Outcome,
+    pub steps: usize,
+    pub bound: u64,
+}
+
+// The empty row's weight in a valid table, 0 if there is none.
+pub fn empty_weight(t: &[u32], base: usize, count: usize) -> u64
+    requires { ⌜ (validTable (now t) ≡ true) × (base ≡ variablesOf (now t) + 2) × (count ≡ rowCount (now t)) ⌝ }
+    ensures { λ r. ⌜ r ≡ emptyWeight maxVariables (tableRows (now (t .entry))) ⌝ }
+{
+    let found = rows::find(t, base, count, Clause::empty());
+    let Found::At(k) = found else {
+        return 0;
+    };
+    rows::weight_of(t, base, k) as u64
+}
+
+// One step call: 9; done; 11; 12; else one step.
+pub fn step(t: &mut [u32]) -> StepAnswer
+    ensures { λ r. ⌜ (r ≡ stepCall (now (t .entry)) .answer) × (now (t .exit) ≡ stepCall (now (t .entry)) .table) ⌝ }
+{
+    let checked = table::check(t);
+    let Checked::Table(shape) = checked else {
+        return StepAnswer::Refused(9);
+    };
+    let base = shape.variables + 2;
+    let count = shape.count;
+    let found = hunt::hunt(t, base, count, 0, 0, 0, shape.fulls);
+    let Hunted::Next(v, i, j) = found else {
+        return StepAnswer::Done;
+    };
+    let advanced = stepping::advance(t, shape, v, i, j);
+    match advanced {
+        Advanced::Made(_, _) => StepAnswer::Stepped(words::step(v, i as u32, j as u32)),
+        Advanced::Refused(k) => StepAnswer::Refused(k),
+    }
+}
+
+// The number of a refusal, 0 for a step that was made.
+fn refusal_in(advanced: Advanced) -> u32
+    ensures { λ r. ⌜ ((k : ℕ) → advanced ≡ Advanced.Refused k → r ≡ k) ⌝ }
+{
+    match advanced {
+        Advanced::Made(_, _) => 0,
+        Advanced::Refused(k) => k,
+    }
+}
+
+fn lesser(a: usize, b: usize) -> usize
+    ensures { λ r. ⌜ r ≡ min a b ⌝ }
+{
+    if a < b { a } else { b }
+}
+
+// The answer of a run that ends so in this table.
+fn ended(t: &[u32], base: usize, count: usize, outcome: Outcome, steps: usize) -> RunAnswer
+    requires { ⌜ (validTable (now t) ≡ true) × (base ≡ variablesOf (now t) + 2) × (count ≡ rowCount (now t)) ⌝ }
+    ensures { λ r. ⌜ r ≡ record { outcome = outcome; steps = steps; bound = emptyWeight maxVariables (tableRows (now (t .entry))) } ⌝ }
+{
+    RunAnswer {
+        outcome,
+        steps,
+        bound: empty_weight(t, base, count),
+    }
+}
+
+// Up to `most` steps on a valid table. The hunt goes on at the bucket of the last step, and tries no pair of rows again.
+fn run_valid(t: &mut [u32], shape: Shape, most: usize, slice: &mut [u32]) -> RunAnswer
+    requires { ⌜ (validTable (now t) ≡ true) × (shape ≡ shapeOf (now t)) × (most ≤ length (now slice)) ⌝ }
+    ensures { λ r. ⌜ (r ≡ runReturns (now (t .entry)) (now (slice .entry)) (runRows (domains (now (t .entry))) (capacityOf (now (t .entry))) most (tableRows (now (t .entry))) []) .answer) × (now (t .exit) ≡ runReturns (now (t .entry)) (now (slice .entry)) (runRows (domains (now (t .entry))) (capacityOf (now (t .entry))) most (tableRows (now (t .entry))) []) .table) × (now (slice .exit) ≡ runReturns (now (t .entry)) (now (slice .entry)) (runRows (domains (now (t .entry))) (capacityOf (now (t .entry))) most (tableRows (now (t .entry))) []) .slice) ⌝ }
+{
+    let n = shape.variables;
+    let fulls = shape.fulls;
+    let base = n + 2;
+    let mut count = shape.count;
+    let mut bucket = 0;
+    let mut skip = 0;
+    let mut clear = 0;
+    let mut made = 0;
+    loop {
+        let found = hunt::hunt(t, base, count, bucket, skip, clear, fulls);
+        let Hunted::Next(v, i, j) = found else {
+            return ended(t, base, count, Outcome::Done, made);
+        };
+        if made == most {
+            return ended(t, base, count, Outcome::Paused, made);
+        }
+        let here = Shape {
+            variables: n,
+            count,
+            fulls,
+        };
+        let advanced = stepping::advance(t, here, v, i, j);
+        let Advanced::Made(now, old) = advanced else {
+            return ended(t, base, count, Outcome::Refused(refusal_in(advanced)), made);
+        };
+        slice[made] = words::step(v, i as u32, j as u32);
+        made += 1;
+        count = now;
+        bucket = v;
+        skip = i;
+        clear = old;
+    }
+}
+
+// A run: single steps, tested before each: done, paused, 11, 12. It tests the table once and never tries a pair of rows again.
+pub fn run(t: &mut [u32], limit: usize, slice: &mut [u32]) -> RunAnswer
+    ensures { λ r. ⌜ (r ≡ runCall (now (t .entry)) limit (now (slice .entry)) .answer) × (now (t .exit) ≡ runCall (now (t .entry)) limit (now (slice .entry)) .table) × (now (slice .exit) ≡ runCall (now (t .entry)) limit (now (slice .entry)) .slice) ⌝ }
+{
+    let checked = table::check(t);
+    let Checked::Table(shape) = checked else {
+        return RunAnswer {
+            outcome: Outcome::Refused(9),
+            steps: 0,
+            bound: 0,
+        };
+    };
+    run_valid(t, shape, lesser(limit, slice.len()), slice)
+}
