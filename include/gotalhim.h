@@ -1,3 +1,4 @@
+/* The archive exports gotalhim_make and gotalhim_cost so far; the other calls are declared for the versions that follow. */
 /* The planner's calls for C: reading a field, planning it step by step, and checking a derivation. */
 #ifndef GOTALHIM_H
 #define GOTALHIM_H
