@@ -1,5 +1,5 @@
 // Instances and sheets, read in one pass: the fault nearest the front decides.
-mod entries;
+pub mod entries;
 mod front;
 mod reader;
 

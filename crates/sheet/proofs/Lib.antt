@@ -4,4 +4,4 @@ pub mod Legs
 pub mod Reading
 mod Places
 mod Writing
-mod Making
+pub mod Making

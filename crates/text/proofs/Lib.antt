@@ -1,0 +1,3 @@
+-- The laws behind the printed text.
+pub mod Putting
+mod Digits

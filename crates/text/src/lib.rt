@@ -1,0 +1,99 @@
+// The printed text: numbers and lines put into a buffer behind the bytes that it holds.
+ghost use mathlib.Core.List.{[], _∷_};
+ghost use Prim.Native.Nat.{_+_, _≤_};
+ghost use lib.ListN.{length};
+ghost use Rattle.text.specs.Text.{decimal, textBound, line, refusedLine, pausedLine, fullLine, planHead, variableLine};
+ghost use Rattle.text.specs.Putting.{Put};
+
+// Bytes as they are.
+fn put(out: &mut [u8], at: usize, bytes: &[u8]) -> usize
+    requires { ⌜ at + length (now bytes) ≤ length (now out) ⌝ }
+    ensures { λ r. ⌜ Put (now (out .entry)) at (now (bytes .entry)) (now (out .exit)) r ⌝ }
+{
+    let mut i = 0;
+    while i < bytes.len() {
+        out[at + i] = bytes[i];
+        i += 1;
+    }
+    at + i
+}
+
+// A number's digits: those of its tenth, then its last.
+fn put_number(out: &mut [u8], at: usize, n: u64) -> usize
+    requires { ⌜ at + 20 ≤ length (now out) ⌝ }
+    ensures { λ r. ⌜ Put (now (out .entry)) at (decimal n) (now (out .exit)) r × (r ≤ at + 20) ⌝ }
+{
+    if n < 10 {
+        out[at] = (48 + n) as u8;
+        at + 1
+    } else {
+        let last = put_number(out, at, n / 10);
+        out[last] = (48 + n % 10) as u8;
+        last + 1
+    }
+}
+
+// REFUSED number.
+pub fn put_refused(out: &mut [u8], at: usize, k: u32) -> usize
+    requires { ⌜ at + 64 ≤ length (now out) ⌝ }
+    ensures { λ r. ⌜ Put (now (out .entry)) at (refusedLine k) (now (out .exit)) r × (r ≤ at + 64) ⌝ }
+{
+    let head = put(out, at, b"REFUSED ");
+    let end = put_number(out, head, k as u64);
+    put(out, end, b"\n")
+}
+
+// The rest of a stopped run's line: steps BOUND b.
+fn put_stopped(out: &mut [u8], at: usize, steps: usize, bound: u64) -> usize
+    requires { ⌜ at + 48 ≤ length (now out) ⌝ }
+    ensures { λ r. ⌜ Put (now (out .entry)) at (line (decimal steps ∷ textBound ∷ decimal bound ∷ [])) (now (out .exit)) r × (r ≤ at + 48) ⌝ }
+{
+    let counted = put_number(out, at, steps as u64);
+    let word = put(out, counted, b" BOUND ");
+    let end = put_number(out, word, bound);
+    put(out, end, b"\n")
+}
+
+// PAUSED steps BOUND b.
+pub fn put_paused(out: &mut [u8], at: usize, steps: usize, bound: u64) -> usize
+    requires { ⌜ at + 64 ≤ length (now out) ⌝ }
+    ensures { λ r. ⌜ Put (now (out .entry)) at (pausedLine steps bound) (now (out .exit)) r × (r ≤ at + 64) ⌝ }
+{
+    let head = put(out, at, b"PAUSED ");
+    put_stopped(out, head, steps, bound)
+}
+
+// FULL steps BOUND b.
+pub fn put_full(out: &mut [u8], at: usize, steps: usize, bound: u64) -> usize
+    requires { ⌜ at + 64 ≤ length (now out) ⌝ }
+    ensures { λ r. ⌜ Put (now (out .entry)) at (fullLine steps bound) (now (out .exit)) r × (r ≤ at + 64) ⌝ }
+{
+    let head = put(out, at, b"FULL ");
+    put_stopped(out, head, steps, bound)
+}
+
+// PLAN, COST c, STEPS k.
+pub fn put_plan_head(out: &mut [u8], at: usize, cost: u64, steps: usize) -> usize
+    requires { ⌜ at + 64 ≤ length (now out) ⌝ }
+    ensures { λ r. ⌜ Put (now (out .entry)) at (planHead cost steps) (now (out .exit)) r × (r ≤ at + 64) ⌝ }
+{
+    let plan = put(out, at, b"PLAN\n");
+    let word = put(out, plan, b"COST ");
+    let costed = put_number(out, word, cost);
+    let next = put(out, costed, b"\nSTEPS ");
+    let end = put_number(out, next, steps as u64);
+    put(out, end, b"\n")
+}
+
+// Variable, value, metres.
+pub fn put_variable(out: &mut [u8], at: usize, variable: u32, value: u8, metres: u32) -> usize
+    requires { ⌜ at + 64 ≤ length (now out) ⌝ }
+    ensures { λ r. ⌜ Put (now (out .entry)) at (variableLine variable value metres) (now (out .exit)) r × (r ≤ at + 64) ⌝ }
+{
+    let named = put_number(out, at, variable as u64);
+    let first = put(out, named, b" ");
+    let valued = put_number(out, first, value as u64);
+    let second = put(out, valued, b" ");
+    let end = put_number(out, second, metres as u64);
+    put(out, end, b"\n")
+}

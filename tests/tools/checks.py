@@ -1,0 +1,58 @@
+"""The count of the checks made, and the tool run as a command or called in this process."""
+
+import io
+import subprocess
+import sys
+from pathlib import Path
+from unittest import mock
+
+from sheets.command import main
+
+ROOT = Path(__file__).resolve().parents[2]
+TOOL = ROOT / "tools" / "sheet"
+
+# How much of a differing result is printed.
+SHOWN = 300
+
+
+class Checks:
+    def __init__(self):
+        self.made = 0
+        self.failed = 0
+
+    def same(self, what, got, expected):
+        self.made += 1
+        if got != expected:
+            self.failed += 1
+            print(f"FAILED {what}\n  expected {repr(expected)[:SHOWN]}\n  got      {repr(got)[:SHOWN]}")
+
+    def answers(self, arguments, source, result):
+        """The command succeeds with this result and says nothing else."""
+        self.same(shown(arguments), ran(arguments, source), (0, result, ""))
+
+    def fails(self, arguments, source, message):
+        """The command fails with this message and has no result."""
+        self.same(shown(arguments), ran(arguments, source), (1, b"", message + "\n"))
+
+    def refuses(self, command, source, fault):
+        """The same for a fault of a sheet on standard input, in this process: there are too many for one each."""
+        expected = 1, b"", f"standard input, {fault}\n"
+        self.same(f"{shown([command])}: {fault}", called([command, "-"], source), expected)
+
+
+def shown(arguments):
+    return " ".join(["sheet", *arguments])
+
+
+def ran(arguments, source):
+    """Exit status, standard output and standard error of the command."""
+    done = subprocess.run([TOOL, *arguments], input=source, capture_output=True, cwd=ROOT)
+    return done.returncode, done.stdout, done.stderr.decode()
+
+
+def called(arguments, source):
+    """The same of the command's main function."""
+    taken, result, said = io.TextIOWrapper(io.BytesIO(source)), io.TextIOWrapper(io.BytesIO()), io.StringIO()
+    with mock.patch.multiple(sys, stdin=taken, stdout=result, stderr=said):
+        status = main(arguments)
+    return status, result.buffer.getvalue(), said.getvalue()

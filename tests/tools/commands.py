@@ -1,0 +1,42 @@
+"""The command itself: files and standard input, and what is said of files that are not there."""
+
+from examples import content
+from reference.fields import as_bytes, sheet
+from sheets.command import USAGE
+from text_faults import UNKNOWN
+
+# Every kind of line as it is written back, with a place left of and below the mark.
+PLACES = [[(0, 0)], [(300, 400), (-5, -1_000_000)]]
+ENTRIES = [([(1, 0)], 9), ([(0, 0), (1, 1)], 12), ([], 5), ([(1, 1)], 65_535), ([], 65_535),
+           ([(0, 0), (1, 0)], 65_535), ([(1, 0)], 9)]
+TEXT = b"""station 0
+  spot 0 at 0.00 0.00
+station 1
+  spot 0 at 3.00 4.00
+  spot 1 at -0.05 -10000.00
+cost 9 at 1/0
+cost 12 at 0/0 1/1
+cost 5
+forbidden 1/1
+cost 65535
+cost 65535 at 0/0 1/0
+cost 9 at 1/0
+"""
+
+
+def run(checks):
+    words = as_bytes(sheet(PLACES, ENTRIES))
+    checks.answers(["text", "-"], words, TEXT)
+    checks.answers(["words", "-"], TEXT, words)
+    checks.answers(["words", "-"], content("corner.txt"), content("corner.sheet"))
+    checks.fails(["words", "examples/corner.plan"], b"",
+                 f"examples/corner.plan, line 1: unknown word 'PLAN'; {UNKNOWN}")
+    checks.fails(["words", "-"], b"station 0\n", "standard input, line 1: station 0 has no spot")
+    checks.fails(["text", "examples/corner.plan"], b"",
+                 "examples/corner.plan, word 8: only 2 of its 4 bytes (refusal 1)")
+    checks.fails(["text", "-"], b"",
+                 "standard input, word 0: the sheet ends where the number of stations is due (refusal 1)")
+    checks.fails(["words", "examples/none.txt"], b"", "examples/none.txt: No such file or directory")
+    checks.fails(["text", "examples"], b"", "examples: Is a directory")
+    for arguments in [[], ["words"], ["sheet", "-"], ["text", "-", "-"]]:
+        checks.fails(arguments, b"", USAGE)

@@ -1,0 +1,144 @@
+"""Every fault of a text, with its line and its reason; and what is no fault has words that the planner takes."""
+
+import random
+
+from checks import ROOT
+from reference import inputs
+from reference.answers import Refused
+from reference.printed import words_of
+from sheets.command import text_to_words
+from sheets.fault import Fault
+
+SPOILED = 1_000
+UNKNOWN = "a line begins with station, spot, cost, forbidden or #"
+METRES = "is not a number of metres from -10000.00 to 10000.00 with at most two decimal places"
+STATION_FORM = "a station is written as 'station NUMBER', or 'station NUMBER NAME' with a name of one word"
+SPOT_FORM = "a spot is written as 'spot NUMBER at EASTING NORTHING'"
+COST_FORM = "a cost is written as 'cost AMOUNT', or 'cost AMOUNT at STATION/SPOT STATION/SPOT ..'"
+FORBIDDEN_FORM = "a forbidden spot is written as 'forbidden STATION/SPOT', each on a line of its own"
+
+# Six lines, on which the entries below rest.
+TWO = "station 0 gate\n spot 0 at 0 0\n\nstation 1\n spot 0 at 3.00 4.00\n spot 1 at 6.00 8.00\n"
+ONE = "station 0\nspot 0 at 0 0\n"
+
+
+def stations(count, spots=1):
+    return "".join(f"station {variable}\n" + "".join(f"spot {value} at 0 0\n" for value in range(spots))
+                   for variable in range(count))
+
+
+def order(what, text, due):
+    return f"{what} {text} where {what} {due} is due; they are numbered from 0 in order"
+
+
+def not_whole(what, text, highest):
+    return f"{what} {text!r} is not a whole number from 0 to {highest}"
+
+
+def line_cases():
+    """Faults in the words of a line."""
+    yield "# a comment\n\nsation 0\n", 3, f"unknown word 'sation'; {UNKNOWN}"
+    yield "Station 0\n", 1, f"unknown word 'Station'; {UNKNOWN}"
+    yield "\x10\x00\x00", 1, f"unknown word '\\x10\\x00\\x00'; {UNKNOWN}"
+    yield "station\n", 1, STATION_FORM
+    yield "station 0 old gate\n", 1, STATION_FORM
+    yield ONE + "spot 1 at 0\n", 3, SPOT_FORM
+    yield ONE + "spot 1 on 0 0\n", 3, SPOT_FORM
+    yield ONE + "spot 1 at 0 0 0\n", 3, SPOT_FORM
+    for wrong in ["cost", "cost 9 at", "cost 9 1/0", "cost 9 on 1/0"]:
+        yield TWO + wrong, 7, COST_FORM
+    for wrong in ["forbidden", "forbidden 0/0 1/1", "forbidden at 1/0"]:
+        yield TWO + wrong, 7, FORBIDDEN_FORM
+
+
+def number_cases():
+    """Numbers that are none or are out of range."""
+    yield stations(12) + "station 12", 25, not_whole("station", "12", 11)
+    yield "station one", 1, not_whole("station", "one", 11)
+    yield "station -1", 1, not_whole("station", "-1", 11)
+    yield stations(1, 8) + "spot 8 at 0 0", 10, not_whole("spot", "8", 7)
+    # A digit, but not one of 0 to 9.
+    yield ONE + "spot \u0661 at 0 0", 3, not_whole("spot", "\u0661", 7)
+    for wrong in ["10000.01", "-10000.01", "99999999999", "1.234", "1.", ".5", "+1", "1,5", "1e3", "x", "--1"]:
+        yield f"station 0\nspot 0 at {wrong} 0", 2, f"easting {wrong!r} {METRES}"
+        yield f"station 0\nspot 0 at 0 {wrong}", 2, f"northing {wrong!r} {METRES}"
+    for wrong in ["65536", "-1", "1.5", "many", "9" * 5_000]:
+        yield TWO + f"cost {wrong}", 7, not_whole("cost", wrong, 65_535)
+        yield TWO + f"cost {wrong} at 1/0", 7, not_whole("cost", wrong, 65_535)
+
+
+def order_cases():
+    """Stations, spots and costs that are missing or stand at the wrong place."""
+    yield "", 1, "the text ends without a station"
+    yield "# nothing\n\n", 3, "the text ends without a station"
+    yield "station 1\n", 1, order("station", 1, 0)
+    yield ONE + "station 0\n", 3, order("station", 0, 1)
+    yield ONE + "station 2\n", 3, order("station", 2, 1)
+    yield "station 0\nspot 1 at 0 0\n", 2, order("spot", 1, 0)
+    yield ONE + "spot 0 at 1 1\n", 3, order("spot", 0, 1)
+    yield "spot 0 at 0 0\n", 1, "a spot before the first station"
+    yield "cost 5\n" + ONE, 1, "a cost before the first station"
+    yield "forbidden 0/0\n" + ONE, 1, "a cost before the first station"
+    yield ONE + "cost 5\nstation 1\n", 4, "a station after the first cost; all stations and spots come first"
+    yield ONE + "cost 5\nspot 1 at 0 0\n", 4, "a spot after the first cost; all stations and spots come first"
+    yield ONE + "station 1 # empty\n\n# end\n", 3, "station 1 has no spot"
+    yield "\nstation 0\nstation 1\nspot 0 at 0 0\n", 2, "station 0 has no spot"
+    yield "station 0\n\ncost 5 at 0/0\n", 1, "station 0 has no spot"
+
+
+def entry_cases():
+    """Costs that name no combination of spots, or are too many."""
+    for wrong in ["1", "1/", "/0", "1/0/0", "1-0", "a/b", "-1/0", "1/0,", "9999999999/0"]:
+        yield TWO + f"cost 9 at {wrong}", 7, f"{wrong!r} is not a spot, which is written as STATION/SPOT, as 1/0"
+    yield TWO + "cost 9 at 2/0", 7, "there is no station 2; the last one is 1"
+    yield TWO + "cost 9 at 1/2", 7, "station 1 has no spot 2; its last one is 1"
+    yield TWO + "forbidden 0/1", 7, "station 0 has no spot 1; its last one is 0"
+    yield TWO + "cost 9 at 1/0 0/0", 7, "station 0 comes after station 1; the stations of a cost must rise"
+    yield TWO + "cost 9 at 1/0 1/1", 7, "station 1 comes after station 1; the stations of a cost must rise"
+    many = "more than 4,096 entries; the {} legs between neighbouring stations count first"
+    yield ONE + "cost 0\n" * 4_097, 4_099, many.format(0)
+    yield TWO + "cost 0\n" * 4_095, 6 + 4_095, many.format(2)
+    yield stations(2, 8) + "cost 0\n" * (4_097 - 64), 18 + 4_097 - 64, many.format(64)
+    # 10 words of stations and spots; 3,997 entries of four words and one of two: 16,000.
+    most = stations(3) + "cost 1 at 0/0 1/0 2/0\n" * 3_997 + "cost 1 at 0/0\n"
+    yield most + "cost 1\n", 6 + 3_999, "more than 16,000 words, the most that the planner takes"
+
+
+def run(checks):
+    for cases in (line_cases, number_cases, order_cases, entry_cases):
+        for text, line, reason in cases():
+            checks.refuses("words", text.encode(), f"line {line}: {reason}")
+    checks.same("spoiled texts that the planner refuses", refused_after_all(random.Random("spoiled texts")), [])
+
+
+def refused_after_all(rng):
+    """Spoiled texts that the tool takes although the reference refuses their words."""
+    wrong = []
+    source = (ROOT / "examples" / "headland.txt").read_text().split("\n")
+    for _ in range(SPOILED):
+        text = "\n".join(spoiled(rng, source))
+        try:
+            inputs.read_sheet(words_of(text_to_words(text.encode())))
+        except Fault:
+            pass
+        except Refused:
+            wrong.append(text)
+    return wrong
+
+
+def spoiled(rng, lines):
+    """A line left out, doubled, exchanged with another, or with another word in it."""
+    lines = list(lines)
+    at, other = rng.randrange(len(lines)), rng.randrange(len(lines))
+    change = rng.choice(["out", "twice", "exchanged", "word", "word", "word"])
+    if change == "out":
+        del lines[at]
+    elif change == "twice":
+        lines.insert(at, lines[at])
+    elif change == "exchanged":
+        lines[at], lines[other] = lines[other], lines[at]
+    else:
+        words = lines[at].split(" ")
+        words[rng.randrange(len(words))] = rng.choice(lines[other].split(" ") + ["0", "1/1", "5/2", "65536"])
+        lines[at] = " ".join(words)
+    return lines

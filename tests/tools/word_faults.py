@@ -1,0 +1,117 @@
+"""Every fault of a sheet in words, with its word and its reason; and damaged sheets against the reference."""
+
+import random
+
+import round_trips
+from reference import fields, inputs, words
+from reference.answers import GOOD, Refused
+from reference.printed import words_of
+from sheets.fault import Fault
+from sheets.words import read_words
+
+DAMAGED = 2_000
+PLACE = [words.easting(0), words.northing(0)]
+# Station 0 with one spot, station 1 with two: nine words.
+TWO = [words.head(2), words.size(1), *PLACE, words.size(2), *PLACE, *PLACE]
+
+
+def head_cases():
+    yield [], 0, "the sheet ends where the number of stations is due (refusal 1)"
+    yield [words.size(1)], 0, "a word of kind 2 where the number of stations is due, a word of kind 1 (refusal 1)"
+    for stations in [0, 13, 1 << 4, 1 << 27 | 1]:
+        yield [words.head(stations)], 0, f"{stations} stations; a field has 1 to 12 (refusal 1)"
+
+
+def station_cases():
+    yield [words.head(1)], 1, "the sheet ends where the number of spots of station 0 is due (refusal 2)"
+    yield TWO[:4], 4, "the sheet ends where the number of spots of station 1 is due (refusal 2)"
+    yield TWO[:4] + [words.cost(1)], 4, ("a word of kind 4 where the number of spots of station 1 is due, "
+                                         "a word of kind 2 (refusal 2)")
+    for spots in [0, 9, 1 << 8 | 1]:
+        yield [words.head(1), words.size(spots)], 1, f"station 0 with {spots} spots; a station has 1 to 8 (refusal 2)"
+    yield TWO[:2], 2, "the sheet ends where the easting of spot 0/0 is due (refusal 2)"
+    yield TWO[:8], 8, "the sheet ends where the northing of spot 1/1 is due (refusal 2)"
+    yield TWO[:7] + [words.northing(0)], 7, ("a word of kind 9 where the easting of spot 1/1 is due, "
+                                             "a word of kind 8 (refusal 2)")
+    yield TWO[:3] + [words.easting(0)], 3, ("a word of kind 8 where the northing of spot 0/0 is due, "
+                                            "a word of kind 9 (refusal 2)")
+    far = "is {} centimetres; at most 1,000,000 either way (refusal 2)"
+    yield TWO[:2] + [words.easting(1_000_001)], 2, "the easting of spot 0/0 " + far.format("1,000,001")
+    yield TWO[:3] + [words.northing(-1_000_001)], 3, "the northing of spot 0/0 " + far.format("-1,000,001")
+
+
+def entry_cases():
+    yield TWO + [words.weight(1)], 9, ("a word of kind 6 among the costs, which have pairs (3) and a cost (4) "
+                                       "(refusal 3)")
+    yield TWO + [words.binding(1, 0)], 10, "the sheet ends where a cost is due (refusal 3)"
+    for bit in [3, 7, 12, 27]:
+        yield (TWO + [words.binding(1, 0) | 1 << bit, words.cost(1)], 9,
+               "a pair with a set bit outside its station and spot (refusal 3)")
+    yield TWO + [words.binding(2, 0), words.cost(1)], 9, "there is no station 2; the last one is 1 (refusal 3)"
+    yield TWO + [words.binding(0, 1), words.cost(1)], 9, "station 0 has no spot 1; its last one is 0 (refusal 3)"
+    yield (TWO + [words.binding(1, 0), words.binding(0, 0), words.cost(1)], 10,
+           "station 0 comes after station 1; the stations of a cost must rise (refusal 3)")
+    dear = "a cost of 65,536; at most 65,535 (refusal 4)"
+    many = "more than 4,096 entries; the 2 legs between neighbouring stations count first (refusal 5)"
+    yield TWO + [words.cost(1), words.cost(65_536)], 10, dear
+    yield TWO + [words.cost(1)] * 4_095, 9 + 4_094, many
+    yield TWO + [words.cost(1)] * 4_094 + [words.cost(65_536)], 9 + 4_094, dear
+
+
+def length_cases():
+    """Faults of the length come before all others."""
+    yield bytes(64_001), 16_000, "the planner takes 16,000 words at most (refusal 10)"
+    yield bytes(64_004), 16_000, "the planner takes 16,000 words at most (refusal 10)"
+    for rest in [1, 2, 3]:
+        yield bytes(8 + rest), 2, f"only {rest} of its 4 bytes (refusal 1)"
+
+
+def run(checks):
+    for data, at, reason in length_cases():
+        checks.refuses("text", data, f"word {at}: {reason}")
+    for cases in (head_cases, station_cases, entry_cases):
+        for source, at, reason in cases():
+            checks.refuses("text", fields.as_bytes(source), f"word {at}: {reason}")
+    rng = random.Random("damaged sheets")
+    for _ in range(DAMAGED):
+        data = fields.as_bytes(damaged(rng, fields.sheet(*round_trips.random_sheet(rng))))
+        checks.same(f"the fault of {data.hex()}", fault_of(data), reference_fault(data))
+
+
+def fault_of(data):
+    """The faulty word and the refusal's number, which the reason ends with."""
+    try:
+        read_words(data)
+    except Fault as fault:
+        return int(fault.place.removeprefix("word ")), int(fault.reason.rsplit(" ", 1)[1].removesuffix(")"))
+    return None, GOOD
+
+
+class Watched(inputs.Reader):
+    """The reference's reader, which remembers the word asked for last."""
+    asked = None
+
+    def take(self, missing):
+        self.asked = self.at
+        return super().take(missing)
+
+
+def reference_fault(data):
+    reader = Watched(words_of(data))
+    try:
+        places = [inputs.read_places(reader) for _ in range(inputs.read_head(reader))]
+        inputs.read_entries(reader, inputs.sizes_of(places), len(inputs.travel_entries(places)))
+    except Refused as refusal:
+        return reader.asked, refusal.number
+    return None, GOOD
+
+
+def damaged(rng, source):
+    """The words with a bit turned, a word left out, doubled, of another kind, or cut off."""
+    at = rng.randrange(len(source))
+    before, taken, after = source[:at], source[at], source[at + 1:]
+    return rng.choice([before + [taken ^ 1 << rng.randrange(32)] + after,
+                       before + after,
+                       before + [taken, taken] + after,
+                       before + [words.word(rng.randrange(16), words.payload_of(taken))] + after,
+                       before])

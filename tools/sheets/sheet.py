@@ -1,0 +1,48 @@
+"""What a sheet holds, its limits, and the faults that both forms can have."""
+
+from typing import NamedTuple
+
+# Variables are document 01's stations, values its spots. What a laboratory reads says station and spot.
+MAX_VARIABLES = 12
+MAX_SIZE = 8
+MAX_COORDINATE = 1_000_000      # centimetres
+MAX_COST = 65_535
+MAX_ENTRIES = 4_096             # the legs counted first
+MAX_WORDS = 16_000              # the program's buffer
+
+# The cost at which a spot that must not be cored is entered.
+FORBIDDEN = MAX_COST
+
+
+class Entry(NamedTuple):
+    """One cost; an entry without bindings is a constant cost."""
+    bindings: tuple     # of (variable, value), variables rising
+    cost: int
+
+
+class Sheet(NamedTuple):
+    places: tuple       # for each variable, the (easting, northing) in centimetres of each of its values
+    entries: tuple      # in the order written, repeats kept
+
+
+def sizes_of(places):
+    return [len(values) for values in places]
+
+
+def binding_fault(sizes, before, variable, value):
+    """Why an entry with the bindings `before` cannot go on with this one, or None where it can."""
+    if variable >= len(sizes):
+        return f"there is no station {variable}; the last one is {len(sizes) - 1}"
+    if value >= sizes[variable]:
+        return f"station {variable} has no spot {value}; its last one is {sizes[variable] - 1}"
+    if before and variable <= before[-1][0]:
+        return f"station {variable} comes after station {before[-1][0]}; the stations of a cost must rise"
+    return None
+
+
+def entry_fault(sizes, counted):
+    """Why a sheet that has so many entries cannot take another one, or None where it can."""
+    legs = sum(size * following for size, following in zip(sizes, sizes[1:]))
+    if legs + counted >= MAX_ENTRIES:
+        return f"more than {MAX_ENTRIES:,} entries; the {legs} legs between neighbouring stations count first"
+    return None

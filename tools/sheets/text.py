@@ -1,0 +1,182 @@
+"""Sheets as text: one line for each station, spot and cost, with coordinates in metres.
+
+    station 0 gate          # numbered from 0 in order; a name may follow
+      spot 0 at 0.00 0.00   # easting and northing
+    station 1
+      spot 0 at 3.00 4.00
+      spot 1 at 6.00 8.00
+    cost 9 at 1/0           # station/spot
+    cost 12 at 0/0 1/1      # a combination of spots, stations rising
+    cost 5                  # whatever the plan
+    forbidden 1/1           # a spot that must not be cored
+
+Stations come first. Names, comments, blank lines and indentation have no words.
+"""
+
+import re
+
+from .fault import Fault
+from .sheet import (FORBIDDEN, MAX_COORDINATE, MAX_COST, MAX_SIZE, MAX_VARIABLES, MAX_WORDS, Entry, Sheet,
+                    binding_fault, entry_fault, sizes_of)
+
+# Nine digits are above every limit.
+NUMBER = re.compile("[0-9]{1,9}")
+METRES = re.compile(r"(-?)([0-9]{1,9})(?:\.([0-9]{1,2}))?")
+BINDING = re.compile("([0-9]{1,9})/([0-9]{1,9})")
+
+# Words of a sheet: the head, each station, each spot. An entry has one for each binding and one for its cost.
+HEAD_WORDS = STATION_WORDS = COST_WORDS = 1
+SPOT_WORDS = 2
+
+
+def write_text(sheet):
+    lines = []
+    for variable, values in enumerate(sheet.places):
+        lines.append(f"station {variable}")
+        for value, (east, north) in enumerate(values):
+            lines.append(f"  spot {value} at {metres_text(east)} {metres_text(north)}")
+    lines += [entry_text(entry) for entry in sheet.entries]
+    return "".join(line + "\n" for line in lines)
+
+
+def metres_text(centimetres):
+    sign = "-" if centimetres < 0 else ""
+    metres, rest = divmod(abs(centimetres), 100)
+    return f"{sign}{metres}.{rest:02}"
+
+
+def entry_text(entry):
+    spots = [f"{variable}/{value}" for variable, value in entry.bindings]
+    if entry.cost == FORBIDDEN and len(spots) == 1:
+        return f"forbidden {spots[0]}"
+    return " ".join([f"cost {entry.cost}"] + (["at"] + spots if spots else []))
+
+
+def read_text(text):
+    draft = Draft()
+    for line in text.split("\n"):
+        draft.take_line(line)
+    return draft.finished()
+
+
+class Draft:
+    """The sheet as far as its lines were read; a fault names the line read last."""
+
+    def __init__(self):
+        self.line = 0
+        self.station_line = 0   # of the last station
+        self.places = []
+        self.entries = []
+        self.words = HEAD_WORDS
+
+    def refuse(self, reason):
+        raise Fault(f"line {self.line}", reason)
+
+    def take_line(self, line):
+        self.line += 1
+        parts = line.split("#")[0].split()
+        if not parts:
+            return
+        takers = {"station": self.take_station, "spot": self.take_spot, "cost": self.take_cost,
+                  "forbidden": self.take_forbidden}
+        if parts[0] not in takers:
+            self.refuse(f"unknown word {parts[0]!r}; a line begins with {', '.join(takers)} or #")
+        takers[parts[0]](parts[1:])
+
+    def take_station(self, parts):
+        if len(parts) not in (1, 2):
+            self.refuse("a station is written as 'station NUMBER', or 'station NUMBER NAME' with a name of one word")
+        self.require_no_entries("station")
+        self.close_station()
+        self.take_number("station", parts[0], len(self.places), MAX_VARIABLES)
+        self.station_line = self.line
+        self.places.append([])
+        self.take_words(STATION_WORDS)
+
+    def take_spot(self, parts):
+        if len(parts) != 4 or parts[1] != "at":
+            self.refuse("a spot is written as 'spot NUMBER at EASTING NORTHING'")
+        self.require_no_entries("spot")
+        if not self.places:
+            self.refuse("a spot before the first station")
+        self.take_number("spot", parts[0], len(self.places[-1]), MAX_SIZE)
+        self.places[-1].append((self.centimetres("easting", parts[2]), self.centimetres("northing", parts[3])))
+        self.take_words(SPOT_WORDS)
+
+    def take_cost(self, parts):
+        if len(parts) == 1:
+            spots = []
+        elif len(parts) > 2 and parts[1] == "at":
+            spots = parts[2:]
+        else:
+            self.refuse("a cost is written as 'cost AMOUNT', or 'cost AMOUNT at STATION/SPOT STATION/SPOT ..'")
+        self.take_entry(spots, self.whole_number("cost", parts[0], MAX_COST))
+
+    def take_forbidden(self, parts):
+        if len(parts) != 1:
+            self.refuse("a forbidden spot is written as 'forbidden STATION/SPOT', each on a line of its own")
+        self.take_entry(parts, FORBIDDEN)
+
+    def take_entry(self, spots, cost):
+        if not self.places:
+            self.refuse("a cost before the first station")
+        self.close_station()
+        sizes = sizes_of(self.places)
+        bindings = []
+        for spot in spots:
+            bindings.append(self.binding(spot, sizes, bindings))
+        reason = entry_fault(sizes, len(self.entries))
+        if reason:
+            self.refuse(reason)
+        self.entries.append(Entry(tuple(bindings), cost))
+        self.take_words(len(bindings) + COST_WORDS)
+
+    def finished(self):
+        if not self.places:
+            self.refuse("the text ends without a station")
+        self.close_station()
+        return Sheet(tuple(tuple(values) for values in self.places), tuple(self.entries))
+
+    def require_no_entries(self, what):
+        """Stations have to be known before a cost names them, and their words stand in front."""
+        if self.entries:
+            self.refuse(f"a {what} after the first cost; all stations and spots come first")
+
+    def close_station(self):
+        if self.places and not self.places[-1]:
+            raise Fault(f"line {self.station_line}", f"station {len(self.places) - 1} has no spot")
+
+    def take_number(self, what, text, due, most):
+        """Numbers are written out for the reader's sake, since costs name them; they say nothing new."""
+        if self.whole_number(what, text, most - 1) != due:
+            self.refuse(f"{what} {text} where {what} {due} is due; they are numbered from 0 in order")
+
+    def take_words(self, count):
+        self.words += count
+        if self.words > MAX_WORDS:
+            self.refuse(f"more than {MAX_WORDS:,} words, the most that the planner takes")
+
+    def whole_number(self, what, text, highest):
+        if not NUMBER.fullmatch(text) or int(text) > highest:
+            self.refuse(f"{what} {text!r} is not a whole number from 0 to {highest}")
+        return int(text)
+
+    def centimetres(self, what, text):
+        parts = METRES.fullmatch(text)
+        if parts:
+            sign, metres, rest = parts.groups(default="")
+            size = 100 * int(metres) + int(rest.ljust(2, "0"))
+            if size <= MAX_COORDINATE:
+                return -size if sign else size
+        most = metres_text(MAX_COORDINATE)
+        self.refuse(f"{what} {text!r} is not a number of metres from -{most} to {most} with at most two decimal places")
+
+    def binding(self, text, sizes, before):
+        parts = BINDING.fullmatch(text)
+        if not parts:
+            self.refuse(f"{text!r} is not a spot, which is written as STATION/SPOT, as 1/0")
+        variable, value = map(int, parts.groups())
+        reason = binding_fault(sizes, before, variable, value)
+        if reason:
+            self.refuse(reason)
+        return variable, value

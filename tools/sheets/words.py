@@ -1,0 +1,149 @@
+"""Sheets as words: 32 bits, the top four the word's kind, the rest its payload; little-endian in a file.
+
+Reading tests in the order of document 01, front to back, so that the fault named is the one that the planner refuses.
+"""
+
+import struct
+
+from .fault import Fault
+from .sheet import (MAX_COORDINATE, MAX_COST, MAX_SIZE, MAX_VARIABLES, MAX_WORDS, Entry, Sheet, binding_fault,
+                    entry_fault, sizes_of)
+
+WORD_BYTES = 4
+PAYLOADS = 1 << 28
+
+HEAD = 1
+SIZE = 2        # document 01: station word
+BINDING = 3     # document 01: pair
+COST = 4
+EASTING = 8
+NORTHING = 9
+
+BINDING_BITS = 0xF07    # station and spot; all other bits of the payload are zero
+
+# The planner's numbers for these faults.
+BAD_HEAD = 1
+BAD_STATION = 2
+BAD_ENTRY = 3
+COST_TOO_HIGH = 4
+TOO_MANY_ENTRIES = 5
+TOO_LONG = 10
+
+
+def word(kind, payload):
+    """A payload below zero is stored as two's complement."""
+    return kind * PAYLOADS + payload % PAYLOADS
+
+
+def sheet_words(sheet):
+    written = [word(HEAD, len(sheet.places))]
+    for values in sheet.places:
+        written.append(word(SIZE, len(values)))
+        for east, north in values:
+            written += [word(EASTING, east), word(NORTHING, north)]
+    for entry in sheet.entries:
+        written += [word(BINDING, variable << 8 | value) for variable, value in entry.bindings]
+        written.append(word(COST, entry.cost))
+    return written
+
+
+def write_words(sheet):
+    """The bytes of a file."""
+    written = sheet_words(sheet)
+    return struct.pack(f"<{len(written)}I", *written)
+
+
+class Reader:
+    """The words and how many were taken; a fault names the word taken last, also where that one is missing."""
+
+    def __init__(self, words):
+        self.words = words
+        self.taken = 0
+
+    def ended(self):
+        return self.taken == len(self.words)
+
+    def refuse(self, number, reason):
+        raise Fault(f"word {self.taken - 1}", f"{reason} (refusal {number})")
+
+    def take(self, number, due):
+        """Kind and payload of the next word."""
+        self.taken += 1
+        if self.taken > len(self.words):
+            self.refuse(number, f"the sheet ends where {due} is due")
+        return divmod(self.words[self.taken - 1], PAYLOADS)
+
+    def take_kind(self, kind, number, due):
+        found, payload = self.take(number, due)
+        if found != kind:
+            self.refuse(number, f"a word of kind {found} where {due} is due, a word of kind {kind}")
+        return payload
+
+
+def read_words(data):
+    """The sheet that a file's bytes hold."""
+    whole, rest = divmod(len(data), WORD_BYTES)
+    if len(data) > WORD_BYTES * MAX_WORDS:
+        raise Fault(f"word {MAX_WORDS}", f"the planner takes {MAX_WORDS:,} words at most (refusal {TOO_LONG})")
+    if rest:
+        raise Fault(f"word {whole}", f"only {rest} of its {WORD_BYTES} bytes (refusal {BAD_HEAD})")
+    reader = Reader(struct.unpack(f"<{whole}I", data))
+    places = tuple(read_places(reader, variable) for variable in range(read_head(reader)))
+    return Sheet(places, read_entries(reader, sizes_of(places)))
+
+
+def read_head(reader):
+    stations = reader.take_kind(HEAD, BAD_HEAD, "the number of stations")
+    if not 1 <= stations <= MAX_VARIABLES:
+        reader.refuse(BAD_HEAD, f"{stations} stations; a field has 1 to {MAX_VARIABLES}")
+    return stations
+
+
+def read_places(reader, variable):
+    spots = reader.take_kind(SIZE, BAD_STATION, f"the number of spots of station {variable}")
+    if not 1 <= spots <= MAX_SIZE:
+        reader.refuse(BAD_STATION, f"station {variable} with {spots} spots; a station has 1 to {MAX_SIZE}")
+    return tuple((read_coordinate(reader, EASTING, f"the easting of spot {variable}/{value}"),
+                  read_coordinate(reader, NORTHING, f"the northing of spot {variable}/{value}"))
+                 for value in range(spots))
+
+
+def read_coordinate(reader, kind, due):
+    payload = reader.take_kind(kind, BAD_STATION, due)
+    centimetres = payload - PAYLOADS if payload >= PAYLOADS // 2 else payload
+    if abs(centimetres) > MAX_COORDINATE:
+        reader.refuse(BAD_STATION, f"{due} is {centimetres:,} centimetres; at most {MAX_COORDINATE:,} either way")
+    return centimetres
+
+
+def read_entries(reader, sizes):
+    entries = []
+    while not reader.ended():
+        entries.append(read_entry(reader, sizes, len(entries)))
+    return tuple(entries)
+
+
+def read_entry(reader, sizes, counted):
+    bindings = []
+    kind, payload = reader.take(BAD_ENTRY, "a cost")
+    while kind != COST:
+        bindings.append(read_binding(reader, kind, payload, sizes, bindings))
+        kind, payload = reader.take(BAD_ENTRY, "a cost")
+    if payload > MAX_COST:
+        reader.refuse(COST_TOO_HIGH, f"a cost of {payload:,}; at most {MAX_COST:,}")
+    reason = entry_fault(sizes, counted)
+    if reason:
+        reader.refuse(TOO_MANY_ENTRIES, reason)
+    return Entry(tuple(bindings), payload)
+
+
+def read_binding(reader, kind, payload, sizes, before):
+    if kind != BINDING:
+        reader.refuse(BAD_ENTRY, f"a word of kind {kind} among the costs, which have pairs (3) and a cost (4)")
+    if payload & ~BINDING_BITS:
+        reader.refuse(BAD_ENTRY, "a pair with a set bit outside its station and spot")
+    variable, value = payload >> 8, payload & 7
+    reason = binding_fault(sizes, before, variable, value)
+    if reason:
+        reader.refuse(BAD_ENTRY, reason)
+    return variable, value
