@@ -94,6 +94,6 @@ pub fn put_variable(out: &mut [u8], at: usize, variable: u32, value: u8, metres:
     let first = put(out, named, b" ");
     let valued = put_number(out, first, value as u64);
     let second = put(out, valued, b" ");
-    let end = put_number(out, second, metres as u64);
-    put(out, end, b"\n")
+    let measured = put_number(out, second, metres as u64);
+    put(out, measured, b"\n")
 }
