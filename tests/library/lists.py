@@ -1,10 +1,15 @@
-"""Lists of encodings, steps, runs and plans through the proved library against the reference: every answer and every word."""
+"""Lists of encodings, steps, runs and plans through the proved library against the reference, word for word."""
 
+import itertools
 import random
+from collections import Counter
 
 import proved
 import reference
-from reference import fields, words
+from reference import fields
+from reference.clauses import full
+from reference.limits import MAX_WEIGHT
+from reference.tables import Row, read_table, table_words
 
 OUTCOMES = {"done": 0, "paused": 1, "refused": 2}
 
@@ -18,101 +23,202 @@ SMALL_FIELDS = [
     ([1], [([], 0)]),
 ]
 
-
-def random_field(chance, variables, most_values, entries):
-    sizes = [chance.randint(1, most_values) for _ in range(variables)]
-    listed = []
-    for _ in range(entries):
-        bound = sorted(chance.sample(range(variables), chance.randint(0, min(variables, 3))))
-        listed.append(([(v, chance.randrange(sizes[v])) for v in bound], chance.choice([0, 1, 2, 5, 300, 65535])))
-    return sizes, listed
+# Every number that a call can answer, and every outcome: each is reached several times.
+DUE = ([("encode", number) for number in (0, 1, 2, 3, 4, 5, 10, 12)]
+       + [("step", "done"), ("step", "stepped"), ("step", 9), ("step", 11), ("step", 12)]
+       + [("run", "done"), ("run", "paused"), ("run", 9), ("run", 11), ("run", 12)]
+       + [("plan", number) for number in (0, 9, 10, 13)])
+reached = Counter()
 
 
-def same(name, got, expected):
-    assert tuple(got) == tuple(expected), f"{name}: {tuple(got)[:4]}, reference {tuple(expected)[:4]}"
+def noted(answer, values):
+    """An answer slice with these values in front, as far as it goes."""
+    return values[:len(answer)] + answer[len(values):]
 
 
-def expected_step(table):
-    step = reference.step_call(table)
-    return step.number, int(step.outcome == "done"), step.word, step.table
+def same(name, outcome, got, expected):
+    for field, mine, other in zip(got._fields, got, expected):
+        assert mine == other, f"{name}, {field}: {str(mine)[:400]}, reference {str(other)[:400]}"
+    reached[name, outcome] += 1
 
 
-def expected_run(table, limit, derivation):
-    ran = reference.run_call(table, limit, derivation)
-    return ran.number, OUTCOMES[ran.outcome], ran.steps, ran.bound, ran.table, ran.derivation
+def encode(instance, table, answer):
+    expected = reference.encode(instance, table)
+    rows = 0 if expected.number else len(read_table(expected.table).rows)
+    same("encode", expected.number, proved.encode(instance, table, answer),
+         (expected.number, noted(answer, [rows]), expected.table))
+    return expected.table
 
 
-def damaged(table, chance):
-    spoiled = list(table)
+def step(table, answer):
+    expected = reference.step_call(table)
+    same("step", expected.number or expected.outcome, proved.step_call(table, answer),
+         (expected.number, noted(answer, [int(expected.outcome == "done"), expected.word]), expected.table))
+    return expected.table
+
+
+def run_steps(table, limit, derivation, answer):
+    expected = reference.run_call(table, limit, derivation)
+    values = [OUTCOMES[expected.outcome], expected.steps, expected.bound]
+    same("run", expected.number or expected.outcome, proved.run_call(table, limit, derivation, answer),
+         (expected.number, noted(answer, values), expected.table, expected.derivation))
+    return expected.table
+
+
+def plan(table, target):
+    expected = reference.plan_call(table, target)
+    same("plan", expected.number, proved.plan_call(table, target), expected)
+
+
+def one_call(table, variables, chance):
+    """Makes one random call on both sides; the table after it."""
+    choice, answer = chance.random(), [77] * chance.choice([0, 1, 2, 3, 3, 5])
+    if choice < 0.4:
+        return step(table, answer)
+    if choice < 0.7:
+        limit, room = chance.choice([0, 1, 2, 3, 40, 2 ** 64 - 1]), chance.choice([0, 1, 3, 3, 60])
+        return run_steps(table, limit, [9] * room, answer)
+    plan(table, [200] * chance.choice([0, variables - 1, variables, variables, variables + 2]))
+    return table
+
+
+def damaged(source, chance):
+    """The words with a flipped bit, cut short, or with one put in again."""
+    spoiled = list(source)
     at = chance.randrange(len(spoiled)) if spoiled else 0
-    if spoiled and chance.random() < 0.8:
+    way = chance.random()
+    if spoiled and way < 0.7:
         spoiled[at] ^= 1 << chance.randrange(32)
+    elif spoiled and way < 0.85:
+        spoiled.insert(at, spoiled[at])
     else:
         spoiled = spoiled[:at]
     return spoiled
 
 
-def one_call(table, variables, chance):
-    """Makes one random call on both sides; the table after it."""
-    choice = chance.random()
-    if choice < 0.4:
-        expected = expected_step(table)
-        same("step", proved.step_call(table), expected)
-        return expected[3]
-    if choice < 0.7:
-        limit, slice_length = chance.choice([0, 1, 2, 3, 1000]), chance.choice([0, 1, 3, 400])
-        expected = expected_run(table, limit, [9] * slice_length)
-        same("run", proved.run_call(table, limit, [9] * slice_length), expected)
-        return expected[4]
-    target = [200] * chance.choice([0, max(variables - 1, 0), variables, variables + 2])
-    same("plan", proved.plan_call(table, target), reference.plan_call(table, target))
-    return table
+def calls_on(table, variables, instance, chance):
+    """A list of calls on a table, some of them on a damaged copy, and once in a while the encoding anew."""
+    for _ in range(chance.randint(1, 12)):
+        way = chance.random()
+        if way < 0.1:
+            one_call(damaged(table, chance), variables, chance)
+        elif way < 0.15:
+            table = encode(instance, table, [77])
+        elif way < 0.2:
+            table = encode(damaged(instance, chance), table, [77, 77])
+        else:
+            table = one_call(table, variables, chance)
+
+
+def random_field(chance):
+    variables = chance.choice([1, 2, 2, 3, 3, 4, 5, 8, 12])
+    sizes = [chance.randint(1, chance.choice([2, 4, 8])) for _ in range(variables)]
+    entries = []
+    for _ in range(chance.randint(0, 14)):
+        bound = sorted(chance.sample(range(variables), chance.randint(0, min(variables, 3))))
+        entries.append(([(v, chance.randrange(sizes[v])) for v in bound], chance.choice([0, 1, 2, 5, 300, 65535])))
+    return sizes, entries
+
+
+def rows_of(field):
+    """How many rows the encoding of a field has."""
+    return len(read_table(reference.encode(fields.instance(*field), [0] * 5000).table).rows)
 
 
 def list_of_calls(field, chance):
-    """An encoding in a table of some length, then calls, some on a damaged copy of the table; how many were made."""
+    """An encoding in a table that may have too little room for it or for the steps, then calls."""
     sizes, entries = field
     instance = fields.instance(sizes, entries)
-    length = chance.choice([0, len(sizes) + 1, len(sizes) + 2, len(sizes) + 12, fields.table_length(len(sizes), 30, 3),
-                            fields.table_length(len(sizes), 400, 1)])
-    expected = reference.encode(instance, [4] * length)
-    same("encode", proved.encode(instance, [4] * length), expected)
-    table, made = expected.table, 1
-    for _ in range(chance.randint(1, 12)):
-        if chance.random() < 0.15:
-            one_call(damaged(table, chance), len(sizes), chance)
-        else:
-            table = one_call(table, len(sizes), chance)
-        made += 1
-    return made
+    rows = max(rows_of(field) + chance.choice([-1, 0, 0, 1, 2, 5, 40, 40]), 0)
+    length = chance.choice([fields.table_length(len(sizes), rows, chance.randrange(5))] * 9 + [len(sizes) + 1])
+    table = encode(instance, [4] * length, [77] * chance.choice([0, 1, 2]))
+    calls_on(table, len(sizes), instance, chance)
 
 
-def to_the_end(field):
-    """A whole run in a large table, word for word, and the plan."""
+def heavy_list(chance):
+    """Calls on a valid table that need not come from an instance, with weights at the limit."""
+    sizes = [chance.randint(2, 4) for _ in range(chance.choice([1, 2, 3, 4, 12]))]
+    clauses = {tuple(chance.choice([0, chance.randrange(full(size))]) for size in sizes)
+               for _ in range(chance.randint(1, 9))}
+    rows = [Row(signs, chance.choice([1, 3, MAX_WEIGHT - 3, MAX_WEIGHT])) for signs in sorted(clauses)]
+    chance.shuffle(rows)
+    length = fields.table_length(len(sizes), len(rows) + chance.choice([0, 1, 2, 30]), chance.randrange(5))
+    calls_on(table_words(sizes, rows, length), len(sizes), fields.instance(sizes, []), chance)
+
+
+def to_the_end(field, rows, most):
+    """Runs of at most so many steps in a table of so many rows, until one makes none; then a step call and the plan."""
     sizes, entries = field
-    table = reference.encode(fields.instance(sizes, entries), [0] * 15014).table
-    expected = expected_run(table, 16000, [0] * 16000)
-    same("run", proved.run_call(table, 16000, [0] * 16000), expected)
-    target = [9] * len(sizes)
-    same("plan", proved.plan_call(expected[4], target), reference.plan_call(expected[4], target))
+    table = encode(fields.instance(sizes, entries), [4] * fields.table_length(len(sizes), rows), [77])
+    before = None
+    while table != before:
+        before, table = table, run_steps(table, most, [0] * most, [77, 77, 77])
+    step(table, [77, 77])
+    plan(table, [9] * len(sizes))
 
 
-def twelve_variables(chance):
-    """Twelve variables with costs between neighbours."""
-    sizes = [chance.randint(2, 4) for _ in range(12)]
+def step_by_step(field):
+    """Step calls, with the plan asked for before each of them."""
+    sizes, entries = field
+    table = encode(fields.instance(sizes, entries), [4] * fields.table_length(len(sizes), 40, 3), [77])
+    for _ in range(8):
+        plan(table, [9] * len(sizes))
+        table = step(table, [77, 77])
+
+
+def twelve_variables(chance, most_values, reach):
+    """Twelve variables with costs between each and those up to `reach` behind it."""
+    sizes = [chance.randint(2, most_values) for _ in range(12)]
     entries = [([(v, a)], chance.randint(0, 20)) for v in range(12) for a in range(sizes[v])]
-    entries += [([(v, a), (v + 1, b)], chance.randint(0, 9)) for v in range(11) for a in range(sizes[v])
-                for b in range(sizes[v + 1])]
+    for v in range(12):
+        for w in range(v + 1, min(v + reach + 1, 12)):
+            entries += [([(v, a), (w, b)], chance.randint(0, 9)) for a in range(sizes[v]) for b in range(sizes[w])]
     return sizes, entries
+
+
+def every_call(table, variables):
+    """A step call, a run and a plan call on the same table."""
+    step(table, [77, 77])
+    run_steps(table, 3, [9] * 4, [77, 77, 77])
+    plan(table, [9] * variables)
+
+
+def at_the_bounds(chance):
+    """4,096 rows and 4,097, 4,097 entries; slices with room for one row less, as many, and more."""
+    triples = itertools.combinations(range(12), 3)
+    every = [(list(zip(bound, values)), 1) for bound in triples for values in itertools.product(range(8), repeat=3)]
+    entries = chance.sample(every, 4097)
+    for rows in (4095, 4096, 4300):
+        for count in (4095, 4096, 4097):
+            length = fields.table_length(12, rows, 1)
+            table = encode(fields.instance([8] * 12, entries[:count]), [4] * length, [77])
+            every_call(table, 12)
+    clauses = [(0,) * 8 + signs for signs in itertools.product(range(9), repeat=4)]
+    for count in (4095, 4096, 4097):
+        rows = [Row(signs, 1) for signs in clauses[:count]]
+        every_call(table_words([8] * 12, rows, fields.table_length(12, 4300)), 12)
+
+
+def too_heavy_and_too_long():
+    """A step that both 11 and 12 forbid: its meet is there with a weight of 1, its three other conclusions are not."""
+    for rows in (3, 4):
+        every_call(fields.table([4, 4], f"3,1:{MAX_WEIGHT} 5,2:{MAX_WEIGHT} 1,3:1", fields.table_length(2, rows)), 2)
 
 
 def run():
     chance = random.Random(5)
-    made = 0
-    for field in SMALL_FIELDS + [twelve_variables(chance) for _ in range(2)]:
-        to_the_end(field)
-        made += 2
-    for turn in range(1500):
-        field = random_field(chance, chance.randint(1, 4 if turn % 3 else 12), 4 if turn % 2 else 8, chance.randint(0, 14))
-        made += list_of_calls(field, chance)
-    return made
+    for field in SMALL_FIELDS:
+        to_the_end(field, 3000, 16000)
+        step_by_step(field)
+    for most_values, reach in ((4, 1), (4, 1), (5, 1), (3, 2), (2, 4)):
+        field = twelve_variables(chance, most_values, reach)
+        to_the_end(field, 3000, 16000)
+        to_the_end(field, rows_of(field) + 12, 70)
+    for _ in range(1200):
+        list_of_calls(random_field(chance), chance)
+        heavy_list(chance)
+    at_the_bounds(chance)
+    too_heavy_and_too_long()
+    missing = [case for case in DUE if reached[case] < 3]
+    assert not missing, f"hardly reached: {missing}"
+    return sum(reached.values())

@@ -69,21 +69,19 @@ def answered_cost(instance, plan, length):
 
 class Encoded(NamedTuple):
     number: int
+    answer: list        # the rows
     table: list
 
 
 class Stepped(NamedTuple):
     number: int
-    done: int
-    word: int
+    answer: list        # 1 if no pair is left, else 0; the step word
     table: list
 
 
 class Ran(NamedTuple):
     number: int
-    outcome: int        # 0 done, 1 paused, 2 refused
-    steps: int
-    bound: int
+    answer: list        # 0 done, 1 paused, 2 refused; the steps; the bound
     table: list
     derivation: list
 
@@ -95,36 +93,36 @@ class Planned(NamedTuple):
 
 class Readout(NamedTuple):
     number: int
-    metres: int
+    answer: list        # the metres
 
 
-def encode(instance, table):
-    lent, answer = Slice(WORD, table), Slice(FIELD, [77])
-    number = call("gotalhim_encode", [Slice(WORD, instance), lent, answer])
-    return Encoded(number, lent.content())
+def encode(instance, table, answer):
+    lent, fields = Slice(WORD, table), Slice(FIELD, answer)
+    number = call("gotalhim_encode", [Slice(WORD, instance), lent, fields])
+    return Encoded(number, fields.content(), lent.content())
 
 
-def step_call(table):
-    lent, answer = Slice(WORD, table), Slice(FIELD, [77, 77])
-    number = call("gotalhim_step", [lent, answer])
-    done, word = answer.content()
-    return Stepped(number, done, word, lent.content())
+def step_call(table, answer):
+    lent, fields = Slice(WORD, table), Slice(FIELD, answer)
+    number = call("gotalhim_step", [lent, fields])
+    return Stepped(number, fields.content(), lent.content())
 
 
-def run_call(table, limit, derivation):
-    lent, words, answer = Slice(WORD, table), Slice(WORD, derivation), Slice(FIELD, [77, 77, 77])
-    number = call("gotalhim_run", [lent, SIZE(limit), words, answer])
-    return Ran(number, *answer.content(), lent.content(), words.content())
+def run_call(table, limit, derivation, answer):
+    lent, words, fields = Slice(WORD, table), Slice(WORD, derivation), Slice(FIELD, answer)
+    number = call("gotalhim_run", [lent, SIZE(limit), words, fields])
+    return Ran(number, fields.content(), lent.content(), words.content())
 
 
 def plan_call(table, target):
-    lent = Slice(BYTE, target)
-    number = call("gotalhim_plan", [Slice(WORD, table), lent])
+    source, lent = Slice(WORD, table), Slice(BYTE, target)
+    number = call("gotalhim_plan", [source, lent])
+    assert source.content() == list(table), "a plan call wrote to the table"
     return Planned(number, lent.content())
 
 
-def readout_call(sheet, plan, variable, easting, northing):
-    answer = Slice(FIELD, [77])
+def readout_call(sheet, plan, variable, easting, northing, answer):
+    fields = Slice(FIELD, answer)
     number = call("gotalhim_readout", [Slice(WORD, sheet), Slice(BYTE, plan), WORD(variable), WORD(easting),
-                                       WORD(northing), answer])
-    return Readout(number, answer.content()[0])
+                                       WORD(northing), fields])
+    return Readout(number, fields.content())

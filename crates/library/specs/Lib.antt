@@ -1,2 +1,3 @@
--- What the exported calls write to the caller's answer slice.
+-- What the exported calls return and write to the caller's answer slice.
 pub mod Noted
+pub mod Fields

@@ -3,7 +3,14 @@ ghost use mathlib.Core.Path.{_≡_};
 ghost use mathlib.Core.List.{List, [], _∷_};
 ghost use Rattle.input.specs.Calls.{costCall};
 ghost use Rattle.sheet.specs.Calls.{makeCall};
+ghost use Rattle.encoding.specs.Calls.{encodeCall};
+ghost use Rattle.resolution.specs.Calls.{stepCall, runCall};
+ghost use Rattle.assignment.specs.Calls.{planCall};
+ghost use Rattle.readout.specs.Calls.{readoutCall};
 ghost use Rattle.library.specs.Noted.{noted};
+ghost use Rattle.library.specs.Fields.{stepNumber, stepFields, outcomeNumber, outcomeField, runNumber, runFields};
+use resolution::Outcome;
+use resolution::StepAnswer;
 
 // One field, if the slice has a place for it.
 fn note(answer: &mut [u64], a: u64)
@@ -11,6 +18,26 @@ fn note(answer: &mut [u64], a: u64)
 {
     if 0 < answer.len() {
         answer[0] = a;
+    }
+}
+
+// Two fields, as far as the slice goes.
+fn note_two(answer: &mut [u64], a: u64, b: u64)
+    ensures { λ r. ⌜ now (answer .exit) ≡ noted (now (answer .entry)) (a ∷ (b ∷ [])) ⌝ }
+{
+    note(answer, a);
+    if 1 < answer.len() {
+        answer[1] = b;
+    }
+}
+
+// Three fields, as far as the slice goes.
+fn note_three(answer: &mut [u64], a: u64, b: u64, c: u64)
+    ensures { λ r. ⌜ now (answer .exit) ≡ noted (now (answer .entry)) (a ∷ (b ∷ (c ∷ []))) ⌝ }
+{
+    note_two(answer, a, b);
+    if 2 < answer.len() {
+        answer[2] = c;
     }
 }
 
@@ -22,6 +49,99 @@ pub extern "C" fn gotalhim_make(sheet: &[u32], target: &mut [u32], answer: &mut 
     let made = sheet::make(sheet, target);
     note(answer, made.value);
     made.number
+}
+
+// Encode an instance as the rows of a table. Answer: the rows.
+#[no_mangle]
+pub extern "C" fn gotalhim_encode(instance: &[u32], table: &mut [u32], answer: &mut [u64]) -> u32
+    ensures { λ r. ⌜ (r ≡ encodeCall (now (instance .entry)) (now (table .entry)) .answer .number) × (now (table .exit) ≡ encodeCall (now (instance .entry)) (now (table .entry)) .table) × (now (answer .exit) ≡ noted (now (answer .entry)) (encodeCall (now (instance .entry)) (now (table .entry)) .answer .value ∷ [])) ⌝ }
+{
+    let encoded = encoding::encode(instance, table);
+    note(answer, encoded.value);
+    encoded.number
+}
+
+// Make the next step in a table. Answer: 1 if no pair is left, else 0; the step word.
+#[no_mangle]
+pub extern "C" fn gotalhim_step(table: &mut [u32], answer: &mut [u64]) -> u32
+    ensures { λ r. ⌜ (r ≡ stepNumber (stepCall (now (table .entry)) .answer)) × (now (table .exit) ≡ stepCall (now (table .entry)) .table) × (now (answer .exit) ≡ noted (now (answer .entry)) (stepFields (stepCall (now (table .entry)) .answer))) ⌝ }
+{
+    let stepped = resolution::step(table);
+    match stepped {
+        StepAnswer::Refused(k) => {
+            note_two(answer, 0, 0);
+            k
+        }
+        StepAnswer::Done => {
+            note_two(answer, 1, 0);
+            0
+        }
+        StepAnswer::Stepped(word) => {
+            note_two(answer, 0, word as u64);
+            0
+        }
+    }
+}
+
+fn outcome_number(outcome: Outcome) -> u32
+    ensures { λ r. ⌜ r ≡ outcomeNumber outcome ⌝ }
+{
+    match outcome {
+        Outcome::Done => 0,
+        Outcome::Paused => 0,
+        Outcome::Refused(k) => k,
+    }
+}
+
+fn outcome_field(outcome: Outcome) -> u64
+    ensures { λ r. ⌜ r ≡ outcomeField outcome ⌝ }
+{
+    match outcome {
+        Outcome::Done => 0,
+        Outcome::Paused => 1,
+        Outcome::Refused(_) => 2,
+    }
+}
+
+// Make steps one after the other. Answer: the outcome, the steps made, the bound.
+#[no_mangle]
+pub extern "C" fn gotalhim_run(
+    table: &mut [u32],
+    limit: usize,
+    derivation: &mut [u32],
+    answer: &mut [u64],
+) -> u32
+    ensures { λ r. ⌜ (r ≡ runNumber (runCall (now (table .entry)) limit (now (derivation .entry)) .answer)) × (now (table .exit) ≡ runCall (now (table .entry)) limit (now (derivation .entry)) .table) × (now (derivation .exit) ≡ runCall (now (table .entry)) limit (now (derivation .entry)) .slice) × (now (answer .exit) ≡ noted (now (answer .entry)) (runFields (runCall (now (table .entry)) limit (now (derivation .entry)) .answer))) ⌝ }
+{
+    let ran = resolution::run(table, limit, derivation);
+    let outcome = ran.outcome;
+    note_three(answer, outcome_field(outcome), ran.steps as u64, ran.bound);
+    outcome_number(outcome)
+}
+
+// Rebuild the assignment of a table in which no pair is left.
+#[no_mangle]
+pub extern "C" fn gotalhim_plan(table: &[u32], target: &mut [u8]) -> u32
+    ensures { λ r. ⌜ (r ≡ planCall (now (table .entry)) (now (target .entry)) .number) × (now (target .exit) ≡ planCall (now (table .entry)) (now (target .entry)) .target) ⌝ }
+{
+    assignment::plan(table, target)
+}
+
+// The metres from a position to the place of an assignment's value. Answer: the metres.
+#[no_mangle]
+pub extern "C" fn gotalhim_readout(
+    sheet: &[u32],
+    plan: &[u8],
+    variable: u32,
+    easting: u32,
+    northing: u32,
+    answer: &mut [u64],
+) -> u32
+    ensures { λ r. ⌜ (r ≡ readoutCall (now (sheet .entry)) (now (plan .entry)) variable easting northing .number) × (now (answer .exit) ≡ noted (now (answer .entry)) (readoutCall (now (sheet .entry)) (now (plan .entry)) variable easting northing .value ∷ [])) ⌝ }
+{
+    let metres = readout::readout(sheet, plan, variable, easting, northing);
+    note(answer, metres.value);
+    metres.number
 }
 
 // The cost of an assignment in an instance. Answer: the cost.

@@ -1,7 +1,6 @@
 -- `library::gotalhim_cost`: the answer's number, with its value noted.
 use borrow.Author.Needs.{needs}
-use mathlib.Core.Path.{ap}
-use Rattle.library.proofs.Noting.{noted-is}
+use Rattle.library.proofs.Telling.{answer-told}
 use Rattle.library.proofs.gotalhim_cost.Statement.{statement}
 use Rattle.library.proofs.gotalhim_cost.Tie as tie
 
@@ -15,10 +14,7 @@ same-length : tie.Need-same-length
 same-length c = search needs
 
 returns : tie.Need-returns
-returns c = (
-  ap (λ a. a .number) (c .before .before .before .before .cost .ensures),
-  noted-is _ _ _ _ (ap (λ a. a .value) (c .before .before .before .before .cost .ensures)) (c .before .before .note .ensures),
-)
+returns c = answer-told _ _ _ _ (c .before .before .before .before .cost .ensures) (c .before .before .note .ensures)
 
 pub gotalhim-cost-spec : {M : Type 1} → statement M
 gotalhim-cost-spec = tie.close (tie.spec cost-requires note-requires same-length returns)

@@ -1,7 +1,6 @@
 -- `library::gotalhim_make`: the answer's number, with its value noted.
 use borrow.Author.Needs.{needs}
-use mathlib.Core.Path.{ap}
-use Rattle.library.proofs.Noting.{noted-is}
+use Rattle.library.proofs.Telling.{answer-told}
 use Rattle.library.proofs.gotalhim_make.Statement.{statement}
 use Rattle.library.proofs.gotalhim_make.Tie as tie
 
@@ -18,11 +17,10 @@ same-length-2 : tie.Need-same-length-2
 same-length-2 c = search needs
 
 returns : tie.Need-returns
-returns c = (
-  ap (λ a. a .number) (c .before .before .before .before .before .before .make .ensures .0),
-  c .before .before .before .before .before .before .make .ensures .1,
-  noted-is _ _ _ _ (ap (λ a. a .value) (c .before .before .before .before .before .before .make .ensures .0)) (c .before .before .note .ensures),
-)
+returns c =
+    let called = c .before .before .before .before .before .before .make .ensures in
+    let told = answer-told _ _ _ _ (called .0) (c .before .before .note .ensures) in
+    (told .0, called .1, told .1)
 
 pub gotalhim-make-spec : {M : Type 1} → statement M
 gotalhim-make-spec =

@@ -1,0 +1,24 @@
+-- The number and the noted fields of an answer are those of the call's answer that it equals.
+use Prim.Native.Nat.{ℕ}
+use mathlib.Core.Path.{_≡_, sym, ap, _∙_}
+use mathlib.Core.List.{List, [], _∷_}
+use Rattle.input.specs.declared.Answer.{Answer}
+use Rattle.resolution.specs.declared.StepAnswer.{StepAnswer}
+use Rattle.resolution.specs.declared.RunAnswer.{RunAnswer}
+use Rattle.library.specs.Noted.{noted}
+use Rattle.library.specs.Fields.{stepNumber, stepFields, outcomeField, runFields}
+
+pub answer-told : (answer call : Answer) (xs ys : List ℕ) → answer ≡ call → ys ≡ noted xs (answer .value ∷ [])
+    → (answer .number ≡ call .number) × (ys ≡ noted xs (call .value ∷ []))
+answer-told answer call xs ys e h = (ap (λ (a : Answer). a .number) e, h ∙ ap (λ (a : Answer). noted xs (a .value ∷ [])) e)
+
+-- `found` is the answer as a match found it
+pub step-told : (answer call found : StepAnswer) (xs ys : List ℕ) → answer ≡ call → answer ≡ found
+    → ys ≡ noted xs (stepFields found) → (stepNumber found ≡ stepNumber call) × (ys ≡ noted xs (stepFields call))
+step-told answer call found xs ys e f h =
+    let g : found ≡ call = sym f ∙ e in
+    (ap stepNumber g, h ∙ ap (λ (a : StepAnswer). noted xs (stepFields a)) g)
+
+pub run-told : (answer call : RunAnswer) (field : ℕ) (xs ys : List ℕ) → answer ≡ call → field ≡ outcomeField (answer .outcome)
+    → ys ≡ noted xs (field ∷ (answer .steps ∷ (answer .bound ∷ []))) → ys ≡ noted xs (runFields call)
+run-told answer call field xs ys e f h = (rw f at h) ∙ ap (λ (a : RunAnswer). noted xs (runFields a)) e
