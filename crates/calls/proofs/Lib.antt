@@ -4,3 +4,6 @@ pub mod Running
 pub mod Moving
 pub mod Upholding
 pub mod Accepting
+pub mod Leaving
+pub mod Asking
+pub mod Driving

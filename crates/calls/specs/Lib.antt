@@ -2,3 +2,5 @@
 pub mod Calls
 pub mod Demand
 pub mod Derivation
+pub mod Driver
+pub mod Slices

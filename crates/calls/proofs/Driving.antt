@@ -1,0 +1,131 @@
+-- The driver's loop: the words that are left do to what the slices hold what all words do to the start; and what was reached upholds demand 3.
+use Prim.Native.Nat.{ℕ, suc, _+_, _-_, _≤_, _<_}
+use native.Mathlib.Numerals.{add-one}
+use native.Mathlib.Omega.{arith}
+use mathlib.Core.Path.{_≡_, refl, sym, ap, ap₂, _∙_}
+use mathlib.Core.Bool.{Bool, true, false}
+use mathlib.Core.List.{List, [], _∷_, _++_}
+use mathlib.Core.Option.{Option, none, some}
+use lib.ListN.{length, getD, take, drop, take-append-drop, drop-of-length-le}
+use lib.Seq.{length-take-le, drop-cons, drop-drop}
+use lib.Dec.{eqb, ltb}
+use borrow.Author.Tests.{eq-eqb, ne-eqb}
+use Rattle.input.specs.declared.Answer.{Answer}
+use Rattle.input.specs.Instance.{instanceFault, sizesOf}
+use Rattle.table.specs.Layout.{rowsAt, capacity}
+use Rattle.encoding.specs.Calls.{encodedRows, encodeCall}
+use Rattle.checker.proofs.Kept.{Coded, coded}
+use Rattle.calls.specs.declared.Driven.{Driven}
+use Rattle.calls.specs.Calls.{Call, afterCalls, started}
+use Rattle.calls.specs.Demand.{Upheld}
+use Rattle.calls.specs.Driver.{asked, Driving, driveCall, driveWord, driveWords, driveAll}
+use Rattle.calls.specs.Slices.{drivingIn}
+use Rattle.calls.proofs.Moving.{Reached, call-reached, reached}
+use Rattle.calls.proofs.Upholding.{upheld}
+use Rattle.calls.proofs.Asking.{Made}
+
+-- ---- the loop
+
+-- what holds before each word: the words from i on are left, and behind the derivation the slice is as it was lent
+pub record Going (t₀ out₀ target₀ calls t out : List ℕ) (made : ℕ) (target : List ℕ) (i : ℕ) : Type 0 where
+  pub same : driveWords out₀ (drivingIn t₀ out₀ 0 target₀) calls ≡ driveWords out₀ (drivingIn t out made target) (drop i calls)
+  pub room : made ≤ length out
+  pub rest : drop made out ≡ drop made out₀
+
+module _ (t₀ out₀ target₀ calls : List ℕ) where
+  pub going-start : Going t₀ out₀ target₀ calls t₀ out₀ 0 target₀ 0
+  going-start = record { same = refl; room = omega arith; rest = refl }
+
+  module _ (t out : List ℕ) (made : ℕ) (target : List ℕ) (i : ℕ) (g : Going t₀ out₀ target₀ calls t out made target i) where
+    -- a word asks for the same, whichever of the two slices the free words are taken from
+    same-word : (w : ℕ) → driveWord out₀ (drivingIn t out made target) w ≡ driveWord out (drivingIn t out made target) w
+    unfolding driveWord
+    same-word w = rw (length-take-le made out (g .room), g .rest)
+
+    -- what lies behind more words is as it was lent, too
+    still-rest : (n : ℕ) → made ≤ n → drop n out ≡ drop n out₀
+    still-rest n h =
+        let e : n ≡ made + (n - made) = omega arith in
+        rw (e, ← drop-drop (n - made) made out, ← drop-drop (n - made) made out₀, g .rest)
+
+    pub going-on : i < length calls → (t′ out′ : List ℕ) (made′ : ℕ) (target′ : List ℕ)
+        → Made t out made target (getD calls i 0) t′ out′ made′ target′ → Going t₀ out₀ target₀ calls t′ out′ made′ target′ (i + 1)
+    unfolding driveWords
+    going-on h t′ out′ made′ target′ (l, p) =
+        let w = getD calls i 0 in
+        let d = driveWord out (drivingIn t out made target) w in
+        let left : d ≡ drivingIn t′ out′ made′ target′ = ap₂ (λ st ws. record { state = st; target = ws }) (l .state) (sym p) in
+        record {
+          same =
+              g .same ∙ ap (driveWords out₀ (drivingIn t out made target)) (drop-cons calls i 0 h)
+              ∙ ap (λ e. driveWords out₀ e (drop (suc i) calls)) (same-word w ∙ left)
+              ∙ ap (λ n. driveWords out₀ (drivingIn t′ out′ made′ target′) (drop n calls)) (sym (add-one i));
+          room = l .room;
+          rest = l .rest ∙ still-rest made′ (l .grown);
+        }
+
+    pub going-end : length calls ≤ i → driveWords out₀ (drivingIn t₀ out₀ 0 target₀) calls ≡ drivingIn t out made target
+    unfolding driveWords
+    going-end h = rw (drop-of-length-le calls h) at (g .same)
+
+-- ---- demand 3
+
+module _ (inst t : List ℕ) (c : Coded inst t) (out : List ℕ) where
+  asked-reached : (d : Driving) (call : Option Call) → Reached inst t (d .state) → Reached inst t (driveCall d call .state)
+  unfolding driveCall
+  asked-reached d none m = m
+  asked-reached d (some call) m = call-reached inst t c (d .state) call m
+
+  words-reached : (d : Driving) (ws : List ℕ) → Reached inst t (d .state) → Reached inst t (driveWords out d ws .state)
+  unfolding driveWords driveWord
+  words-reached d [] m = m
+  words-reached d (w ∷ ws) m =
+      words-reached (driveWord out d w) ws (asked-reached d (asked (drop (length (d .state .derivation)) out) (d .target) w) m)
+
+  drive-reached : (ws target : List ℕ) → Reached inst t (driveWords out (record { state = started inst t; target = target }) ws .state)
+  unfolding afterCalls
+  drive-reached ws target = words-reached (record { state = started inst t; target = target }) ws (reached inst t c [])
+
+-- ---- the whole call
+
+-- a refused encoding leaves the table as it was
+encode-refused : (inst t : List ℕ) → (encodeCall inst t .answer .number ≡ 0 → ⊥) → encodeCall inst t .table ≡ t
+unfolding encodeCall
+encode-refused inst t f =
+    go (eqb (instanceFault inst) 0) (ltb (length t) (rowsAt (length (sizesOf inst))))
+    (ltb (capacity (length t) (length (sizesOf inst))) (length (encodedRows inst))) refl refl refl
+  where
+    go : (a b c : Bool) → eqb (instanceFault inst) 0 ≡ a → ltb (length t) (rowsAt (length (sizesOf inst))) ≡ b
+        → ltb (capacity (length t) (length (sizesOf inst))) (length (encodedRows inst)) ≡ c → encodeCall inst t .table ≡ t
+    go true true c p q r = rw (p, q)
+    go true false true p q r = rw (p, q, r)
+    go true false false p q r = absurd (f (rw (p, q, r)))
+    go false b c p q r = rw p
+
+abbrev Drove : List ℕ → List ℕ → List ℕ → List ℕ → List ℕ → Driven → List ℕ → List ℕ → List ℕ → Type 0
+Drove inst t calls out target r t′ out′ target′ =
+    (r ≡ driveAll inst t calls out target .answer) × (t′ ≡ driveAll inst t calls out target .table)
+    × (out′ ≡ driveAll inst t calls out target .out) × (target′ ≡ driveAll inst t calls out target .target)
+    × (r .number ≡ 0 → Upheld inst t t′ (take (r .steps) out′))
+
+module _ (inst t calls out target : List ℕ) (a : Answer) (t₀ : List ℕ) (coding : (a ≡ encodeCall inst t .answer) × (t₀ ≡ encodeCall inst t .table)) where
+  pub drive-refused : (a .number ≡ 0 → ⊥) → Drove inst t calls out target (record { number = a .number; steps = 0 }) t₀ out target
+  unfolding driveAll
+  drive-refused f =
+      let refused : encodeCall inst t .answer .number ≡ 0 → ⊥ = rw (coding .0) at f in
+      rw (ne-eqb (encodeCall inst t .answer .number) 0 refused)
+      (ap (λ b. record { number = b .number; steps = 0 }) (coding .0), coding .1 ∙ encode-refused inst t refused, refl, refl, λ z. absurd (f z))
+
+  pub drive-made : a .number ≡ 0 → (t′ out′ : List ℕ) (made : ℕ) (target′ : List ℕ) (i : ℕ) → length calls ≤ i
+      → Going t₀ out target calls t′ out′ made target′ i → Drove inst t calls out target (record { number = 0; steps = made }) t′ out′ target′
+  unfolding driveAll
+  drive-made e t′ out′ made target′ i h g =
+      let start : Driving = record { state = started inst t; target = target } in
+      let encoded : encodeCall inst t .answer .number ≡ 0 = rw (coding .0) at e in
+      let c = coded inst t encoded in
+      let end : driveWords out start calls ≡ drivingIn t′ out′ made target′
+      = rw (coding .1) at (going-end t₀ out target calls t′ out′ made target′ i g h) in
+      let front : length (take made out′) ≡ made = length-take-le made out′ (g .room) in
+      let whole : out′ ≡ take made out′ ++ drop made out = rw (← g .rest) (sym (take-append-drop made out′)) in
+      rw (eq-eqb (encodeCall inst t .answer .number) 0 encoded, end, front)
+      (refl, refl, whole, refl, λ z. upheld inst t c t′ (take made out′) (rw end at (drive-reached inst t c out calls target)))
