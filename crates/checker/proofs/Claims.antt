@@ -53,7 +53,7 @@ claim inst plan claimed rs e =
       costs = eqb-true claimed (cost (entriesOf inst) plan) (and-right (a && b) c e);
     }
 
-replayed-left : (inst t derivation : List ℕ) → Coded inst t
+pub replayed-left : (inst t derivation : List ℕ) → Coded inst t
     → Left inst (capacity (length t) (length (sizesOf inst))) (replayed inst t derivation .rows)
 replayed-left inst t derivation c =
     replay-left inst (c .accepted) (capacity (length t) (length (sizesOf inst))) derivation (encodedRows inst) 0

@@ -88,6 +88,17 @@ module _ (inst t : List ℕ) where
           }
       go false b c p q r h = absurd (eqb-false (instanceFault inst) 0 p h)
 
+  kept-so : (a b c : Bool) → encodeCall inst t ≡ encodes inst t a b c → (encodeCall inst t .answer .number ≡ 0 → ⊥) → encodeCall inst t .table ≡ t
+  unfolding encodes
+  kept-so true true c e n = ap (λ r. r .table) e
+  kept-so true false true e n = ap (λ r. r .table) e
+  kept-so true false false e n = absurd (n (ap (λ r. r .answer .number) e))
+  kept-so false b c e n = ap (λ r. r .table) e
+
+  -- a refused encoding leaves the slice as it was
+  pub encode-refused : (encodeCall inst t .answer .number ≡ 0 → ⊥) → encodeCall inst t .table ≡ t
+  encode-refused n = kept-so _ _ _ encode-tests n
+
 -- ---- rows that keep the instance
 
 pub record Keeps (inst : List ℕ) (rs : List Row) : Type 0 where

