@@ -3,18 +3,14 @@ use Prim.Native.Nat.{ℕ, suc, _+_, _-_, _≤_, _<_}
 use native.Mathlib.Numerals.{add-one}
 use native.Mathlib.Omega.{arith}
 use mathlib.Core.Path.{_≡_, refl, sym, ap, ap₂, _∙_}
-use mathlib.Core.Bool.{Bool, true, false}
 use mathlib.Core.List.{List, [], _∷_, _++_}
 use mathlib.Core.Option.{Option, none, some}
 use lib.ListN.{length, getD, take, drop, take-append-drop, drop-of-length-le}
 use lib.Seq.{length-take-le, drop-cons, drop-drop}
-use lib.Dec.{eqb, ltb}
 use borrow.Author.Tests.{eq-eqb, ne-eqb}
 use Rattle.input.specs.declared.Answer.{Answer}
-use Rattle.input.specs.Instance.{instanceFault, sizesOf}
-use Rattle.table.specs.Layout.{rowsAt, capacity}
-use Rattle.encoding.specs.Calls.{encodedRows, encodeCall}
-use Rattle.checker.proofs.Kept.{Coded, coded}
+use Rattle.encoding.specs.Calls.{encodeCall}
+use Rattle.checker.proofs.Kept.{Coded, coded, encode-refused}
 use Rattle.calls.specs.declared.Driven.{Driven}
 use Rattle.calls.specs.Calls.{Call, afterCalls, started}
 use Rattle.calls.specs.Demand.{Upheld}
@@ -87,20 +83,6 @@ module _ (inst t : List ℕ) (c : Coded inst t) (out : List ℕ) where
   drive-reached ws target = words-reached (record { state = started inst t; target = target }) ws (reached inst t c [])
 
 -- ---- the whole call
-
--- a refused encoding leaves the table as it was
-encode-refused : (inst t : List ℕ) → (encodeCall inst t .answer .number ≡ 0 → ⊥) → encodeCall inst t .table ≡ t
-unfolding encodeCall
-encode-refused inst t f =
-    go (eqb (instanceFault inst) 0) (ltb (length t) (rowsAt (length (sizesOf inst))))
-    (ltb (capacity (length t) (length (sizesOf inst))) (length (encodedRows inst))) refl refl refl
-  where
-    go : (a b c : Bool) → eqb (instanceFault inst) 0 ≡ a → ltb (length t) (rowsAt (length (sizesOf inst))) ≡ b
-        → ltb (capacity (length t) (length (sizesOf inst))) (length (encodedRows inst)) ≡ c → encodeCall inst t .table ≡ t
-    go true true c p q r = rw (p, q)
-    go true false true p q r = rw (p, q, r)
-    go true false false p q r = absurd (f (rw (p, q, r)))
-    go false b c p q r = rw p
 
 abbrev Drove : List ℕ → List ℕ → List ℕ → List ℕ → List ℕ → Driven → List ℕ → List ℕ → List ℕ → Type 0
 Drove inst t calls out target r t′ out′ target′ =

@@ -22,7 +22,8 @@ use Rattle.checker.proofs.Replaying.{Left}
 use Rattle.calls.specs.Calls.{Call, stepAsked, runAsked, planAsked, State, wordsOfStep, afterCall, afterCalls, started}
 use Rattle.calls.specs.Demand.{domainsOf, room, EncodesExactly}
 use Rattle.calls.proofs.Reaching.{Reaches, still, onward, reaches-append, reaches-left}
-use Rattle.calls.proofs.Held.{Held, held, held-rows, held-step, held-run}
+use Rattle.checker.proofs.Holding.{Held, held}
+use Rattle.calls.proofs.Held.{held-rows, held-step, held-run}
 use Rattle.calls.proofs.Running.{Runs, run-runs, no-step, next-step}
 
 pub encodesExactly : EncodesExactly

@@ -30,7 +30,8 @@ use Rattle.checker.proofs.Replaying.{Left}
 use Rattle.calls.specs.Calls.{Call, afterCalls, started}
 use Rattle.calls.specs.Demand.{domainsOf, room, RunEnds, Best, Upheld, Demand3}
 use Rattle.calls.proofs.Reaching.{reaches-derives, reaches-steps, reaches-left}
-use Rattle.calls.proofs.Held.{Held, held-run, held-assignment, plan-short, plan-early, plan-written}
+use Rattle.checker.proofs.Holding.{Held}
+use Rattle.calls.proofs.Held.{held-run, held-assignment, plan-short, plan-early, plan-written}
 use Rattle.calls.proofs.Running.{Ends, noneLeft, limitMet, noRoom}
 use Rattle.calls.proofs.Moving.{Moved, moved-left, left-held, step-done, step-left, ran, ran-runs, run-table, reached}
 

@@ -17,6 +17,7 @@ use Rattle.table.proofs.Finishing.{valid-variables, valid-count}
 use Rattle.resolution.proofs.Single.{Advances}
 
 pub record Held (t : List ℕ) (len : ℕ) (ds : List ℕ) (rs : List Row) : Type 0 where
+  pub words : t ≡ tableWords len ds rs
   pub valid : validTable t ≡ true
   pub long : length t ≡ len
   pub sizes : tableSizes t ≡ ds
@@ -36,6 +37,7 @@ held t len ds rs h e =
     let r : tableRows t ≡ rs = rw e (b .rows) in
     let n : variablesOf t ≡ length ds = sym (valid-variables t v) ∙ ap length s in
     record {
+      words = e;
       valid = v;
       long = l;
       sizes = s;
