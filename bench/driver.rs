@@ -1,5 +1,6 @@
 //! Plans one sheet for the benchmark. `driver WHAT SHEET` prints one line; WHAT is `shape`, the form of the run,
 //! `plain` or `proved`, one run whose instructions are counted, or `times`, the least time of either in nanoseconds.
+//! `driver run_plain SHEET LIMIT` and `driver run_proved SHEET LIMIT` count a run of so many steps alone.
 
 #![allow(unknown_lints, unexpected_cfgs)]
 
@@ -36,6 +37,28 @@ pub extern "C" fn bench_proved(sheet: &Vec<u32>, buffers: &mut Buffers) -> bool 
     planned::<proved::Proved>(sheet, buffers).number == 0
 }
 
+/// A run on the encoded table, counted by itself.
+#[no_mangle]
+#[inline(never)]
+pub extern "C" fn bench_run_plain(limit: usize, buffers: &mut Buffers) -> u64 {
+    Plain::run(&mut buffers.table, limit, &mut buffers.derivation).1[1]
+}
+
+#[cfg(proved)]
+#[no_mangle]
+#[inline(never)]
+pub extern "C" fn bench_run_proved(limit: usize, buffers: &mut Buffers) -> u64 {
+    proved::Proved::run(&mut buffers.table, limit, &mut buffers.derivation).1[1]
+}
+
+/// Buffers with the sheet's instance and its encoded table.
+fn encoded(sheet: &[u32]) -> Buffers {
+    let mut buffers = Buffers::new();
+    let (_, written) = Plain::make(sheet, &mut buffers.instance);
+    Plain::encode(&buffers.instance[..written as usize], &mut buffers.table);
+    buffers
+}
+
 fn read_sheet(path: &str) -> Vec<u32> {
     let bytes = fs::read(path).expect("the sheet can be read");
     bytes.chunks_exact(4).map(|four| u32::from_le_bytes([four[0], four[1], four[2], four[3]])).collect()
@@ -48,9 +71,7 @@ fn rows_in(table: &[u32]) -> u32 {
 
 /// The rows of the encoding, the most rows seen and the rows at the end.
 fn rows_on_the_way(sheet: &[u32]) -> (u32, u32, u32) {
-    let mut buffers = Buffers::new();
-    let (_, written) = Plain::make(sheet, &mut buffers.instance);
-    Plain::encode(&buffers.instance[..written as usize], &mut buffers.table);
+    let mut buffers = encoded(sheet);
     let first = rows_in(&buffers.table);
     let mut most = first;
     for _ in 0..STEP_LIMIT / STRIDE {
@@ -91,12 +112,16 @@ fn print_times(sheet: &[u32]) {
 fn main() {
     let arguments: Vec<String> = env::args().skip(1).collect();
     let sheet = read_sheet(&arguments[1]);
+    let limit = arguments.get(2).map_or(0, |limit| limit.parse().expect("a step limit"));
     match arguments[0].as_str() {
         "shape" => print_shape(&sheet),
         "times" => print_times(&sheet),
         "plain" => println!("{}", bench_plain(&sheet, &mut Buffers::new())),
         #[cfg(proved)]
         "proved" => println!("{}", bench_proved(&sheet, &mut Buffers::new())),
+        "run_plain" => println!("{}", bench_run_plain(limit, &mut encoded(&sheet))),
+        #[cfg(proved)]
+        "run_proved" => println!("{}", bench_run_proved(limit, &mut encoded(&sheet))),
         what => panic!("no such figure: {}", what),
     }
 }

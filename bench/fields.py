@@ -64,6 +64,18 @@ def paired_costs(rng, field, apart, share):
             if rng.random() < share]
 
 
+def settled_sheet(rows):
+    """Five variables to be resolved, and beside them, in the bucket of variable 6, so many rows that go with no other:
+    they all leave out the same value there. Variables from 5 on lie in one place, so that travel between them is free."""
+    core = Field("core", 5, 5, 30_000)
+    rng = random.Random("settled")
+    places = [[(rng.randrange(core.width), rng.randrange(core.width)) for _ in range(core.values)]
+              for _ in range(core.variables)]
+    places += [[(0, 0)], [(0, 0)] * 2] + [[(0, 0)] * 8] * 4
+    beside = [([(6, 0), (7, k // 512), (8, k // 64 % 8), (9, k // 8 % 8), (10, k % 8)], 1) for k in range(rows)]
+    return fields.sheet(places, single_costs(rng, core) + beside)
+
+
 def write_sheets(folder):
     folder.mkdir(parents=True, exist_ok=True)
     for field in FIELDS:

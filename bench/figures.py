@@ -55,12 +55,14 @@ def shape_of(sheet):
     return Shape(ended, steps, most, bound, cost)
 
 
-def instructions(implementation, sheet):
-    """Instructions from the sheet's words to the plan, as valgrind counts them; 0 where it is not installed."""
+def instructions(implementation, sheet, *more):
+    """Instructions from the sheet's words to the plan, as valgrind counts them; 0 where it is not installed.
+
+    For `run_plain` and `run_proved`, of a run of so many steps alone."""
     if not shutil.which("valgrind"):
         return 0
     done = subprocess.run(["valgrind", "--tool=callgrind", "--callgrind-out-file=/dev/null",
-                           f"--toggle-collect=bench_{implementation}", DRIVER, implementation, sheet],
+                           f"--toggle-collect=bench_{implementation}", DRIVER, implementation, sheet, *more],
                           check=True, capture_output=True, text=True)
     return int(re.search(r"Collected : (\d+)", done.stderr).group(1))
 

@@ -1,3 +1,3 @@
 -- The laws of this crate that belong to no one function.
-mod Positions
+pub mod Positions
 mod Answers

@@ -1,0 +1,23 @@
+-- `main` lends so many bytes of the text as `plan_text` says, which are no more than there are.
+use mathlib.Core.Path.{sym}
+use lib.Seq.{length-take-le}
+use borrow.Author.Needs.{needs}
+use Rattle.planner.proofs.main.Statement.{statement}
+use Rattle.planner.proofs.main.Tie as tie
+
+slice-aggregate-write-all : tie.Need-slice-aggregate-write-all
+slice-aggregate-write-all c = sym (length-take-le _ _ (c .before .before .plan-text .ensures .1))
+
+pub main-spec : {M : Type 1} → statement M
+main-spec =
+    tie.close
+    (tie.spec
+    (λ c. search needs)
+    (λ c κs. search needs)
+    (λ c. search needs)
+    (λ c. search needs)
+    (λ c κs. search needs)
+    (λ c. search needs)
+    slice-aggregate-write-all
+    (λ c κs. search needs)
+    (λ c. search needs))

@@ -1,0 +1,55 @@
+"""Fields that several subjects start from, each as sizes and entries."""
+
+import random
+
+# P1 to P6 of document 01.
+SMALL_FIELDS = [
+    ([2], [([(0, 0)], 3), ([(0, 1)], 1)]),
+    ([3], [([(0, 0)], 2), ([(0, 1)], 1), ([(0, 2)], 4)]),
+    ([2, 2], [([(0, 0), (1, 0)], 2), ([(0, 1), (1, 0)], 1)]),
+    ([2, 2], [([(0, 0)], 1), ([(0, 1), (1, 0)], 1)]),
+    ([1], [([(0, 0)], 7)]),
+    ([1], [([], 0)]),
+]
+
+# Four rows, four after the first step, five after the second.
+GROWING = ([2, 2, 2], [([(0, 0)], 2), ([(0, 1)], 1), ([(1, 0)], 2), ([(1, 1), (2, 0)], 1)])
+
+
+def chain(chance, sizes):
+    """A field in which all single values and all neighbours cost."""
+    entries = [([(variable, value)], chance.randint(0, 9)) for variable, size in enumerate(sizes) for value in range(size)]
+    for variable in range(len(sizes) - 1):
+        entries += [([(variable, value), (variable + 1, other)], chance.randint(0, 5))
+                    for value in range(sizes[variable]) for other in range(sizes[variable + 1])]
+    return sizes, entries
+
+
+def scattered(chance, sizes, entry_total):
+    """A field of random entries of up to four bindings."""
+    entries = []
+    for _ in range(entry_total):
+        bound = sorted(chance.sample(range(len(sizes)), chance.randint(0, min(len(sizes), 4))))
+        entries.append(([(variable, chance.randrange(sizes[variable])) for variable in bound],
+                        chance.choice([0, 1, 2, 5, 300, 65_535])))
+    return sizes, entries
+
+
+def random_sizes(chance):
+    """Mostly few variables, sometimes all twelve."""
+    if chance.random() < 0.1:
+        return [chance.randint(1, 2) for _ in range(12)]
+    return [chance.randint(1, chance.choice([2, 3, 3, 8])) for _ in range(chance.randint(1, 4))]
+
+
+def random_field(chance):
+    """Half of them chains, which take many steps."""
+    sizes = random_sizes(chance)
+    if chance.random() < 0.5 and max(sizes) < 5:
+        return chain(chance, sizes)
+    return scattered(chance, sizes, chance.randint(0, 14))
+
+
+def long_chain():
+    """Twelve variables: every sign word is in use."""
+    return chain(random.Random(12), [2, 1, 2, 3, 1, 2, 2, 3, 2, 1, 2, 3])

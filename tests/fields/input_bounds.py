@@ -1,0 +1,87 @@
+"""The bounds of an input through every call that reads one: stations, costs, entries with legs counted, targets."""
+
+import driver
+from reference import fields, words
+from reference.answers import GOOD
+from reference.inputs import instance_of, instance_words, read_sheet
+
+HERE = (0, 0)
+MOST_ENTRIES = 4_096
+
+
+def instance_calls(both, instance):
+    """The calls that read an instance, with room for forty rows."""
+    plan = [0] * (instance[0] & 15)
+    length = len(plan) + 2 + 5 * 40
+    _, paid = both.cost(instance, plan)
+    both.encode(instance, [9] * length)
+    both.check(instance, [], plan, paid, [9] * length)
+    both.drive(instance, [9] * length, [driver.run_word(1, 1)], [9] * 2, [9] * 14)
+
+
+def sheet_calls(both, sheet):
+    """The calls that read a sheet; a good one is made in targets around its instance's length."""
+    plan = [0] * (sheet[0] & 15)
+    number = both.readout(sheet, plan, len(plan) - 1, words.easting(0), words.northing(300)).number
+    lengths = [0, 40]
+    if number == GOOD:
+        needed = len(instance_words(instance_of(read_sheet(sheet))))
+        lengths += [needed - 1, needed, needed + 1]
+    for length in lengths:
+        both.make(sheet, [9] * length)
+
+
+def station_bounds(both):
+    for stations in (1, 12, 13):
+        for size in (1, 8, 9):
+            both_forms(both, stations, size, [words.cost(7)])
+    for head in (0, 15, 0xFFFFFFF):
+        both_forms(both, 1, 1, [], head)
+
+
+def both_forms(both, stations, size, entries, head=None):
+    """An instance and a sheet of so many stations with so many spots; another number may stand in the head."""
+    front = words.head(stations if head is None else head)
+    place = [words.easting(0), words.northing(0)]
+    instance_calls(both, [front] + [words.size(size)] * stations + entries)
+    sheet_calls(both, [front] + ([words.size(size)] + place * size) * stations + entries)
+
+
+def cost_bounds(both):
+    """Costs at the bound in constants, single spots and combinations of all stations."""
+    for cost in (0, 65_535, 65_536, 0xFFFFFFF):
+        for stations in (0, 1, 12):
+            bindings = [words.binding(station, 1) for station in range(stations)]
+            both_forms(both, 12, 2, bindings + [words.cost(cost)])
+            both_forms(both, 12, 2, bindings + [words.cost(cost)] + bindings + [words.cost(1)])
+
+
+def ends_of_entries():
+    """What may stand where the last entry ends or the one too many begins."""
+    pair, cost = words.binding(0, 0), words.cost
+    return [[], [cost(0)], [cost(65_535)], [cost(65_536)], [pair], [pair, cost(1)], [pair, pair, cost(1)],
+            [words.binding(15, 0), cost(1)], [cost(1), cost(65_536)], [words.word(11, 0)]]
+
+
+def entry_bounds(both):
+    """4,095 and 4,096 entries of the greatest cost, and what follows."""
+    for entries in (MOST_ENTRIES - 1, MOST_ENTRIES):
+        for end in ends_of_entries():
+            instance_calls(both, fields.instance([2], [([(0, 1)], 65_535)] * entries) + end)
+
+
+def leg_bounds(both):
+    """Legs count first: so many stations with so many spots leave the rest of 4,096 for entries."""
+    for stations, size in ((1, 8), (2, 1), (2, 8), (12, 8)):
+        legs = (stations - 1) * size * size
+        for entries in (MOST_ENTRIES - 1 - legs, MOST_ENTRIES - legs):
+            sheet = fields.sheet([[HERE] * size] * stations, [([], 1)] * entries)
+            for end in ends_of_entries():
+                sheet_calls(both, sheet + end)
+
+
+def compare(both):
+    station_bounds(both)
+    cost_bounds(both)
+    entry_bounds(both)
+    leg_bounds(both)

@@ -1,0 +1,42 @@
+"""Records of whole runs by the reference: what the planner hands to a laboratory, and how long a table it takes."""
+
+from typing import NamedTuple
+
+import reference
+from reference import fields
+from reference.steps import STEPPED
+from reference.tables import read_table
+
+# Room for every step and row of the fields that are recorded.
+STEPS = 400
+ROWS = 400
+
+
+class Record(NamedTuple):
+    instance: list
+    derivation: list
+    plan: list
+    cost: int
+    length: int         # of the work table
+
+
+def stepped(table):
+    """The step words from a table to the end, and the tables on the way, the first and the last included."""
+    derivation, tables = [], [table]
+    answer = reference.step_call(table)
+    while answer.outcome == STEPPED:
+        derivation.append(answer.word)
+        tables.append(answer.table)
+        answer = reference.step_call(answer.table)
+    return derivation, tables
+
+
+def recorded(field, spare=0):
+    """The record of a run to the end, in the shortest table that has room for it, with so many words more."""
+    instance, variables = fields.instance(*field), len(field[0])
+    start = reference.encode(instance, [0] * fields.table_length(variables, ROWS)).table
+    derivation, tables = stepped(start)
+    ran = reference.run_call(start, STEPS, [0] * STEPS)
+    plan = reference.plan_call(ran.table, [0] * variables).target
+    most_rows = max(len(read_table(table).rows) for table in tables)
+    return Record(instance, derivation, plan, ran.bound, fields.table_length(variables, most_rows, spare))

@@ -1,0 +1,76 @@
+"""Every small field through all calls: the encoding, each step, the whole run, the plan and the checker.
+
+Covered are all fields with costs from these sets, the entries in the order constant, single values, pairs of values:
+- one variable of 1 to 4 values: constant 0 or 1, values 0 to 4;
+- two variables of 1 and 1, 1 and 2, 2 and 1, 2 and 2, 1 and 3, 3 and 1 values: constant 0 or 1, values 0 or 1, pairs 0 to 2;
+- two variables of 2 and 3 values: no constant, values 0 or 1, pairs 0 to 2;
+- two variables of 3 and 2 values: constant 0 or 1, values 0 or 1, pairs 0 or 1; and pairs 0 to 2 alone.
+"""
+
+from itertools import product
+from math import prod
+from typing import NamedTuple
+
+from reference import fields
+from reference.clauses import full
+from reference.steps import STEPPED
+
+
+class Costs(NamedTuple):
+    """How high the costs of a field go; each takes every whole number from 0 on."""
+    constant: int
+    value: int
+    pair: int
+
+
+COVERED = ([([size], Costs(1, 4, 0)) for size in (1, 2, 3, 4)]
+           + [(sizes, Costs(1, 1, 2)) for sizes in ([1, 1], [1, 2], [2, 1], [2, 2], [1, 3], [3, 1])]
+           + [([2, 3], Costs(0, 1, 2)), ([3, 2], Costs(1, 1, 1)), ([3, 2], Costs(0, 0, 2))])
+
+
+def places(sizes, costs):
+    """The bindings of every entry that a field may have, each with the highest cost."""
+    values = [[(variable, value) for value in range(size)] for variable, size in enumerate(sizes)]
+    listed = [([], costs.constant)]
+    listed += [([bound], costs.value) for bindings in values for bound in bindings]
+    if len(sizes) == 2:
+        listed += [(list(pair), costs.pair) for pair in product(*values)]
+    return listed
+
+
+def all_fields(sizes, costs):
+    """The entries of every field of these sizes; entries of cost 0 stand in them, too."""
+    listed = places(sizes, costs)
+    for chosen in product(*(range(highest + 1) for _, highest in listed)):
+        yield [(bindings, cost) for (bindings, _), cost in zip(listed, chosen)]
+
+
+def most_rows(sizes):
+    """As many rows as there are clauses without a full sign: a table of this capacity never runs full."""
+    return prod(full(size) for size in sizes)
+
+
+def stepped_to_the_end(both, table):
+    """The derivation by single steps and the table after it."""
+    derivation = []
+    answer = both.step(table)
+    while answer.outcome == STEPPED:
+        derivation.append(answer.word)
+        answer = both.step(answer.table)
+    return derivation, answer.table
+
+
+def through_all_calls(both, sizes, entries, spare):
+    instance = fields.instance(sizes, entries)
+    length = fields.table_length(len(sizes), most_rows(sizes), spare)
+    start = both.encode(instance, [5] * length).table
+    derivation, table = stepped_to_the_end(both, start)
+    ran = both.run(start, len(derivation) + 1, [4] * (len(derivation) + 1))
+    plan = both.plan(table, [8] * len(sizes)).target
+    both.check(instance, derivation, plan, ran.bound, [6] * length)
+
+
+def compare(both):
+    for sizes, costs in COVERED:
+        for index, entries in enumerate(all_fields(sizes, costs)):
+            through_all_calls(both, sizes, entries, index % 5)
