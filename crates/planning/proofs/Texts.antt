@@ -22,8 +22,8 @@ use Rattle.resolution.specs.Calls.{runCall}
 use Rattle.assignment.specs.Calls.{planCall}
 use Rattle.text.specs.Text.{refusedLine, pausedLine, fullLine}
 use Rattle.text.specs.Putting.{Put}
-use Rattle.planning.specs.Printed.{bufferWords, tableBuffer, stepLimit, wordsIn, planText, outcomeText, runText, instanceText, sheetText, printed}
-use Rattle.planning.specs.Planned.{Coded, bytesText}
+use Rattle.planning.specs.Printed.{bufferWords, tableBuffer, stepLimit, wordsIn, planText, outcomeText, runText, instanceText, sheetText, bytesText, printed}
+use Rattle.planning.specs.Planned.{Coded}
 
 -- other words for the bytes that were put
 pub put-same : (out : List ℕ) (at : ℕ) (xs ys after : List ℕ) (end : ℕ) → xs ≡ ys → Put out at xs after end → Put out at ys after end
@@ -150,5 +150,5 @@ module _ (bytes instance table slice : List ℕ) where
 pub printed-put : (bytes after : List ℕ) (end : ℕ)
     → Put (replicate 1024 0) 0 (bytesText bytes (replicate bufferWords 0) (replicate tableBuffer 0) (replicate bufferWords 0)) after end
     → end ≤ 832 → (take end after ≡ printed bytes) × (end ≤ length after)
-unfolding printed bytesText
+unfolding printed
 printed-put bytes after end p h = (p .0, omega arith)

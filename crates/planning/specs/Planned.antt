@@ -1,15 +1,11 @@
 -- What the program's functions hand on to one another.
-use Prim.Native.Nat.{ℕ, _+_, _*_, _%_, _≤_, _<_}
+use Prim.Native.Nat.{ℕ, _+_, _*_, _≤_, _<_}
 use mathlib.Core.Path.{_≡_}
-use mathlib.Core.Bool.{cond}
 use mathlib.Core.List.{List}
 use lib.ListN.{length, getD}
-use lib.Dec.{eqb, ltb}
 use Rattle.input.specs.Sheet.{sheetFault, sheetSizes}
 use Rattle.sheet.specs.Made.{madeWords}
 use Rattle.encoding.specs.Calls.{encodeCall}
-use Rattle.text.specs.Text.{refusedLine}
-use Rattle.planning.specs.Printed.{bufferWords, wordsIn, sheetText}
 
 -- the little-endian word whose first byte stands at this index
 abbrev pub wordAt : List ℕ → ℕ → ℕ
@@ -28,10 +24,3 @@ pub record Coded (sheet table : List ℕ) : Type 0 where
   pub over : List ℕ
   pub good : encodeCall (madeWords sheet) over .answer .number ≡ 0
   pub wrote : table ≡ encodeCall (madeWords sheet) over .table
-
--- the printed text for any buffers: those of the program are all zero
-unfoldable pub bytesText : List ℕ → List ℕ → List ℕ → List ℕ → List ℕ
-unfolding wordsIn sheetText
-bytesText bytes instance table steps =
-    cond (ltb (4 * bufferWords) (length bytes)) (refusedLine 10)
-    (cond (eqb (length bytes % 4) 0) (sheetText (wordsIn bytes) instance table steps) (refusedLine 1))

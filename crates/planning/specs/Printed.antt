@@ -74,10 +74,13 @@ sheetText sheet instance table steps =
     (refusedLine (made .answer .number))
 
 -- over 64,000 bytes is 10; else a length not a multiple of four is 1
-unfoldable pub printed : List ℕ → List ℕ
+unfoldable pub bytesText : List ℕ → List ℕ → List ℕ → List ℕ → List ℕ
 unfolding wordsIn sheetText
-printed bytes =
+bytesText bytes instance table steps =
     cond (ltb (4 * bufferWords) (length bytes)) (refusedLine 10)
-    (cond (eqb (length bytes % 4) 0)
-    (sheetText (wordsIn bytes) (replicate bufferWords 0) (replicate tableBuffer 0) (replicate bufferWords 0))
-    (refusedLine 1))
+    (cond (eqb (length bytes % 4) 0) (sheetText (wordsIn bytes) instance table steps) (refusedLine 1))
+
+-- in the program's buffers, which are all zero
+unfoldable pub printed : List ℕ → List ℕ
+unfolding bytesText
+printed bytes = bytesText bytes (replicate bufferWords 0) (replicate tableBuffer 0) (replicate bufferWords 0)

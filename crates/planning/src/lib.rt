@@ -8,8 +8,8 @@ ghost use Rattle.resolution.specs.declared.Outcome.{Outcome};
 ghost use Rattle.resolution.specs.Calls.{runCall};
 ghost use Rattle.assignment.specs.Calls.{planCall};
 ghost use Rattle.text.specs.Putting.{Put};
-ghost use Rattle.planning.specs.Printed.{wordsIn, metresTo, variableLines, planText, outcomeText, runText, instanceText, sheetText, printed};
-ghost use Rattle.planning.specs.Planned.{wordAt, Planned, Coded, bytesText};
+ghost use Rattle.planning.specs.Printed.{wordsIn, metresTo, variableLines, planText, outcomeText, runText, instanceText, sheetText, bytesText, printed};
+ghost use Rattle.planning.specs.Planned.{wordAt, Planned, Coded};
 use resolution::Outcome;
 use resolution::RunAnswer;
 
