@@ -1,4 +1,3 @@
-/* The archive exports gotalhim_make and gotalhim_cost so far; the other calls are declared for the versions that follow. */
 /* The planner's calls for C: reading a field, planning it step by step, and checking a derivation. */
 #ifndef GOTALHIM_H
 #define GOTALHIM_H
@@ -105,6 +104,33 @@ uint32_t gotalhim_run(uint32_t *table, size_t table_length,
  */
 uint32_t gotalhim_plan(const uint32_t *table, size_t table_length,
                        uint8_t *target, size_t target_length);
+
+/*
+ * Encodes an instance as gotalhim_encode does, and then makes the calls of a list of words, one after the other. A call
+ * word has its kind in the top four bits:
+ *    0 step
+ *    1 run: its limit in bits 14-27, the length of its slice in bits 0-13
+ *    2 plan: the length of its target in bits 0-27
+ * Words of other kinds are passed over. The words of the steps made stand one behind the other from the front of the
+ * derivation slice. A step is passed over where no place is left there. A run has the places behind the last word, as
+ * many as its length asks for or as are left. A plan has the front of the target, as long as it asks for or as the
+ * target is. A call of the list that is refused leaves memory as it says at that call, and the next one is made; its
+ * number is not returned.
+ * Tests: those of gotalhim_encode alone.
+ * Answer: the number of steps made.
+ * Memory: the table after the last call; the words of the steps made, the rest of the slice kept; the target as the
+ * plans left it.
+ * Proved wherever the number is 0: the table is valid, and the step words are the way to it from the encoding, each the
+ * next step. For every plan, the weights of the rows that it falsifies add up to its cost, so the bound is above no
+ * plan's cost. There are no more steps than a number fixed by the instance. While a pair is left, nothing but 12 stops
+ * a further step. Once none is left, gotalhim_plan writes a plan of least cost, and the bound is that cost.
+ */
+uint32_t gotalhim_drive(const uint32_t *instance, size_t instance_length,
+                        uint32_t *table, size_t table_length,
+                        const uint32_t *calls, size_t calls_length,
+                        uint32_t *derivation, size_t derivation_length,
+                        uint8_t *target, size_t target_length,
+                        uint64_t *answer, size_t answer_length);
 
 /*
  * Checks a derivation: encodes the instance in the work table, replays the step words, each any permitted pair on its

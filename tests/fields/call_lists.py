@@ -6,6 +6,7 @@ import driver
 import reference
 from both import row_total
 from chosen import GROWING, SMALL_FIELDS, long_chain, random_field
+from records import recorded
 from reference import fields, words
 from reference.answers import GOOD
 
@@ -16,6 +17,11 @@ MOST = driver.SLICE_MASK
 MOST_TARGET = words.PAYLOAD_MASK
 
 
+def random_length(chance, usual, bits):
+    """A usual number, or a single bit of a field of a call word, so that each counts."""
+    return chance.choice(usual) if chance.random() < 0.7 else 1 << chance.randrange(bits)
+
+
 def random_call(chance, variables):
     """A call word; one in twelve asks for nothing."""
     kind = chance.choice([0, 0, 0, 0, 0, 1, 1, 1, 2, 2, 2, 3])
@@ -23,9 +29,11 @@ def random_call(chance, variables):
         # The payload of a step word says nothing.
         return words.word(kind, chance.choice([0, 0, 0, 1, words.PAYLOAD_MASK]))
     if kind == driver.RUN:
-        return driver.run_word(chance.choice([0, 1, 1, 2, 2, 3, 3, 4, MOST]), chance.choice([0, 1, 2, 5, MOST]))
+        return driver.run_word(random_length(chance, [0, 1, 1, 2, 2, 3, 3, 4, MOST], driver.SLICE_BITS),
+                               random_length(chance, [0, 1, 2, 5, MOST], driver.SLICE_BITS))
     if kind == driver.PLAN:
-        return driver.plan_word(chance.choice([0, variables - 1, variables, variables + 1, MOST_TARGET, MOST_TARGET]))
+        usual = [0, variables - 1, variables, variables + 1, MOST_TARGET, MOST_TARGET]
+        return driver.plan_word(random_length(chance, usual, words.PAYLOAD_BITS))
     return words.word(chance.randint(3, 15), chance.choice([0, 1, MOST_TARGET, chance.randrange(1 << 28)]))
 
 
@@ -57,18 +65,19 @@ def random_list(both, chance, field):
     both.drive(instance, [4] * table_length(chance, instance, variables), calls, out, target)
 
 
-def step_by_step(both, field):
-    """The whole derivation in one list of each kind: by steps, by runs of one step, by one run; then the plan."""
-    variables = len(field[0])
-    for calls in ([driver.step_word()] * 400, [driver.run_word(1, 1)] * 400, [driver.run_word(MOST, MOST)]):
-        for out_length in (399, 400):
-            both.drive(fields.instance(*field), [4] * 4_000, calls + [driver.plan_word(variables)],
+def to_the_end(both, field):
+    """The whole derivation by steps, by runs of one step and by one run, in slices around its length; then the plan."""
+    record, variables = recorded(field), len(field[0])
+    steps = len(record.derivation)
+    for calls in ([driver.step_word()] * (steps + 2), [driver.run_word(1, 1)] * (steps + 2), [driver.run_word(MOST, MOST)]):
+        for out_length in range(max(steps - 2, 0), steps + 3):
+            both.drive(record.instance, [4] * record.length, calls + [driver.plan_word(variables)],
                        [9] * out_length, [200] * (variables + 1))
 
 
 def compare(both):
     chance = random.Random(8)
     for field in SMALL_FIELDS + [GROWING, long_chain()]:
-        step_by_step(both, field)
+        to_the_end(both, field)
     for _ in range(LISTS):
         random_list(both, chance, random_field(chance))

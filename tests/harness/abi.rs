@@ -27,6 +27,14 @@ mod declared {
             table: *const u32, table_length: usize,
             target: *mut u8, target_length: usize,
         ) -> u32;
+        pub fn gotalhim_drive(
+            instance: *const u32, instance_length: usize,
+            table: *mut u32, table_length: usize,
+            calls: *const u32, calls_length: usize,
+            derivation: *mut u32, derivation_length: usize,
+            target: *mut u8, target_length: usize,
+            answer: *mut u64, answer_length: usize,
+        ) -> u32;
         pub fn gotalhim_check(
             instance: *const u32, instance_length: usize,
             derivation: *const u32, derivation_length: usize,
@@ -94,6 +102,27 @@ pub fn run(table: &mut [u32], limit: usize, derivation: &mut [u32], answer: &mut
 pub fn plan(table: &[u32], target: &mut [u8]) -> u32 {
     unsafe {
         declared::gotalhim_plan(table.as_ptr(), table.len(), target.as_mut_ptr(), target.len())
+    }
+}
+
+/// Encodes an instance and makes the calls of a list of words; the answer is the number of steps made.
+pub fn drive(
+    instance: &[u32],
+    table: &mut [u32],
+    calls: &[u32],
+    derivation: &mut [u32],
+    target: &mut [u8],
+    answer: &mut [u64],
+) -> u32 {
+    unsafe {
+        declared::gotalhim_drive(
+            instance.as_ptr(), instance.len(),
+            table.as_mut_ptr(), table.len(),
+            calls.as_ptr(), calls.len(),
+            derivation.as_mut_ptr(), derivation.len(),
+            target.as_mut_ptr(), target.len(),
+            answer.as_mut_ptr(), answer.len(),
+        )
     }
 }
 

@@ -10,11 +10,12 @@ pub enum Call {
     Check { instance: Vec<u32>, derivation: Vec<u32>, assignment: Vec<u8>, claimed: u64, table: Vec<u32> },
     Readout { sheet: Vec<u32>, assignment: Vec<u8>, variable: u32, easting: u32, northing: u32 },
     Cost { instance: Vec<u32>, assignment: Vec<u8> },
+    Drive { instance: Vec<u32>, table: Vec<u32>, calls: Vec<u32>, derivation: Vec<u32>, target: Vec<u8> },
 }
 
-pub const CALLS: usize = 8;
+pub const CALLS: usize = 9;
 
-pub const NAMES: [&str; CALLS] = ["make", "encode", "step", "run", "plan", "check", "readout", "cost"];
+pub const NAMES: [&str; CALLS] = ["make", "encode", "step", "run", "plan", "check", "readout", "cost", "drive"];
 
 /// The numbers that random inputs of each call have to reach.
 pub const NUMBERS: [&[u32]; CALLS] = [
@@ -26,10 +27,11 @@ pub const NUMBERS: [&[u32]; CALLS] = [
     &[0, 1, 2, 3, 4, 5, 6, 7, 10, 12],
     &[0, 1, 2, 3, 4, 5, 8],
     &[0, 1, 2, 3, 4, 5, 7],
+    &[0, 1, 2, 3, 4, 5, 10, 12],
 ];
 
 /// How many fields each call returns besides its number.
-const FIELDS: [usize; CALLS] = [1, 1, 2, 3, 0, 1, 1, 1];
+const FIELDS: [usize; CALLS] = [1, 1, 2, 3, 0, 1, 1, 1, 1];
 
 impl Call {
     /// The call's place in the lists above.
@@ -43,6 +45,7 @@ impl Call {
             Call::Check { .. } => 5,
             Call::Readout { .. } => 6,
             Call::Cost { .. } => 7,
+            Call::Drive { .. } => 8,
         }
     }
 

@@ -9,7 +9,7 @@ use crate::damage;
 use crate::fields::Field;
 use crate::input_calls;
 use crate::random::Random;
-use crate::tables::{encoded_rows, length};
+use crate::tables::{any_length, encoded_rows, length};
 
 /// The longest derivation that is tried.
 const STEPS: usize = 120;
@@ -68,23 +68,13 @@ fn permitted(random: &mut Random, field: &Field) -> Derived {
 
 fn check(random: &mut Random, field: &Field, derived: &Derived) -> Call {
     let (words, assignment) = (derived.words.clone(), derived.assignment.clone());
-    let length = table_length(random, field);
+    let length = any_length(random, field);
     Call::Check {
         instance: damage::maybe(random, field.instance(), 12),
         derivation: if random.percent(30) { damaged_steps(random, words) } else { words },
         assignment: if random.percent(15) { input_calls::assignment(random, field) } else { assignment },
         claimed: claimed(random, derived.bound),
         table: random.words(length),
-    }
-}
-
-fn table_length(random: &mut Random, field: &Field) -> usize {
-    let rows = encoded_rows(field);
-    match random.below(16) {
-        0 => random.below(field.variables() + 3),
-        1 => length(field.variables(), random.below(rows + 1)),
-        2..=5 => length(field.variables(), rows + random.below(6)) + random.below(5),
-        _ => length(field.variables(), rows + random.between(20, 200)) + random.below(5),
     }
 }
 

@@ -16,6 +16,10 @@ pub struct Field {
 impl Field {
     /// Any field, mostly a small one.
     pub fn any(random: &mut Random) -> Field {
+        if random.percent(25) {
+            let sizes = sizes(random, 2, 5, &[1, 2, 2, 3]);
+            return Field::linked(random, sizes);
+        }
         let sizes = match random.below(20) {
             0 => sizes(random, 12, 12, &[1, 1, 2, 2, 3]),
             1 => sizes(random, 1, 2, &[7, 8]),
@@ -30,6 +34,20 @@ impl Field {
     /// A field of the given domains with at most so many entries.
     fn with_entries(random: &mut Random, sizes: Vec<u32>, most: usize) -> Field {
         let entries = (0..random.between(0, most)).map(|_| entry(random, &sizes)).collect();
+        Field { sizes, entries }
+    }
+
+    /// A field that takes many steps: each value has a cost, and so has each pair of values of neighbouring variables.
+    pub fn linked(random: &mut Random, sizes: Vec<u32>) -> Field {
+        let mut entries = Vec::new();
+        for (variable, &size) in sizes.iter().enumerate() {
+            for value in 0..size as usize {
+                entries.push((vec![(variable, value)], random.pick(&COSTS)));
+                for next in 0..sizes.get(variable + 1).map_or(0, |&size| size as usize) {
+                    entries.push((vec![(variable, value), (variable + 1, next)], random.below(40) as u32));
+                }
+            }
+        }
         Field { sizes, entries }
     }
 
@@ -81,7 +99,7 @@ impl Field {
     }
 }
 
-fn sizes(random: &mut Random, fewest: usize, most: usize, from: &[u32]) -> Vec<u32> {
+pub fn sizes(random: &mut Random, fewest: usize, most: usize, from: &[u32]) -> Vec<u32> {
     (0..random.between(fewest, most)).map(|_| random.pick(from)).collect()
 }
 

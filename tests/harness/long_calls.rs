@@ -29,6 +29,13 @@ pub fn entries_round(random: &mut Random, comparison: &mut Comparison) {
         Call::Readout { sheet, assignment: assignment.clone(), variable: 0, easting: 8 << 28, northing: 9 << 28 },
         Call::Cost { instance: instance.clone(), assignment: assignment.clone() },
         Call::Encode { instance: instance.clone(), table: random.words(60) },
+        Call::Drive {
+            instance: instance.clone(),
+            table: random.words(60),
+            calls: vec![0, 2 << 28 | 2],
+            derivation: vec![1; 2],
+            target: vec![1; 2],
+        },
         Call::Check { instance, derivation: vec![], assignment, claimed: 0, table: random.words(60) },
     ];
     for call in calls {

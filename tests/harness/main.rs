@@ -7,10 +7,13 @@ mod call;
 mod check_calls;
 mod comparison;
 mod damage;
+mod drive_calls;
+mod driver;
 mod fields;
 mod guarded;
 mod input_calls;
 mod long_calls;
+mod long_derivations;
 mod proved;
 mod random;
 mod table_calls;
@@ -24,14 +27,16 @@ use std::process;
 use comparison::Comparison;
 use random::Random;
 
-/// How many rounds lie between two with many entries, and between two with many rows.
+/// How many rounds lie between two with many entries, between two with many steps, and between two with many rows.
 const ENTRIES_STRIDE: u64 = 400;
+const STEPS_STRIDE: u64 = 100;
 const ROWS_STRIDE: u64 = 4_000;
 
-/// A call of each group, by its index: of inputs, of tables (three), of the checker.
+/// A call of each group, by its index: of inputs, of tables (three), of the checker, of the driver.
 const INPUT_CALL: usize = 0;
 const TABLE_CALLS: [usize; 3] = [2, 3, 4];
 const CHECK_CALL: usize = 5;
+const DRIVE_CALL: usize = 8;
 
 struct Options {
     cases: usize,
@@ -67,8 +72,14 @@ fn make_round(comparison: &mut Comparison, seed: u64, round: u64, cases: usize) 
     if comparison.made(CHECK_CALL) < cases {
         check_calls::round(&mut random(2), comparison);
     }
+    if comparison.made(DRIVE_CALL) < cases {
+        drive_calls::round(&mut random(5), comparison);
+    }
     if round % ENTRIES_STRIDE == 0 {
         long_calls::entries_round(&mut random(3), comparison);
+    }
+    if round % STEPS_STRIDE == 0 {
+        long_derivations::round(&mut random(6), comparison);
     }
     if round % ROWS_STRIDE == 0 {
         long_calls::rows_round(&mut random(4), comparison);

@@ -39,6 +39,9 @@ fn made_with(call: &mut Call, answer: &mut [u64]) -> Made {
         Call::Cost { instance, assignment } => {
             Made { number: abi::cost(instance, assignment, answer), kept_within: true }
         }
+        Call::Drive { instance, table, calls, derivation, target } => {
+            drive(instance, table, calls, derivation, target, answer)
+        }
     }
 }
 
@@ -59,4 +62,18 @@ fn plan(table: &[u32], target: &mut [u8]) -> Made {
     let mut lent = Guarded::new(target, BYTE);
     let number = abi::plan(table, lent.lent());
     Made { number, kept_within: lent.returned(target) }
+}
+
+fn drive(
+    instance: &[u32],
+    table: &mut [u32],
+    calls: &[u32],
+    derivation: &mut [u32],
+    target: &mut [u8],
+    answer: &mut [u64],
+) -> Made {
+    let (mut steps, mut plan) = (Guarded::new(derivation, WORD), Guarded::new(target, BYTE));
+    let made = on_words(table, |table| abi::drive(instance, table, calls, steps.lent(), plan.lent(), answer));
+    let lent_kept = [steps.returned(derivation), plan.returned(target), made.kept_within];
+    Made { kept_within: lent_kept.iter().all(|&kept| kept), ..made }
 }

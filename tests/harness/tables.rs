@@ -19,9 +19,20 @@ pub fn encoded_rows(field: &Field) -> usize {
     plain::encode(&field.instance(), &mut table).expect("there is a row for every entry")
 }
 
+/// The length of a slice for a field's table: too short for its encoding, or with little or much room for more rows.
+pub fn any_length(random: &mut Random, field: &Field) -> usize {
+    let rows = encoded_rows(field);
+    match random.below(16) {
+        0 => random.below(field.variables() + 3),
+        1 => length(field.variables(), random.below(rows + 1)),
+        2..=5 => length(field.variables(), rows + random.below(6)) + random.below(5),
+        _ => length(field.variables(), rows + random.between(20, 200)) + random.below(5),
+    }
+}
+
 /// The table of a field with little or much room for more rows.
 pub fn encoded(random: &mut Random, field: &Field) -> Vec<u32> {
-    let rows = encoded_rows(field) + random.pick(&[0, 0, 1, 2, 3, 6, 60, 60, 60]);
+    let rows = encoded_rows(field) + random.pick(&[0, 0, 1, 2, 3, 6, 60, 60, 200]);
     let mut table = vec![0; length(field.variables(), rows) + random.below(5)];
     plain::encode(&field.instance(), &mut table).expect("the rows fit");
     table

@@ -3,6 +3,7 @@
 use plain::{Outcome, Refusal, Stepped};
 
 use crate::call::Call;
+use crate::driver;
 
 /// Makes a call on the memory that it holds, and writes its fields to the front of the answer slice: those that it has
 /// room for. The result is the call's number.
@@ -20,6 +21,9 @@ pub fn made(call: &mut Call, answer: &mut [u64]) -> u32 {
             one(plain::readout(sheet, assignment, *variable, *easting, *northing).map(u64::from))
         }
         Call::Cost { instance, assignment } => one(plain::cost(instance, assignment)),
+        Call::Drive { instance, table, calls, derivation, target } => {
+            one(driver::drive(instance, table, calls, derivation, target).map(|steps| steps as u64))
+        }
     };
     for (place, field) in answer.iter_mut().zip(fields) {
         *place = field;

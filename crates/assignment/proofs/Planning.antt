@@ -83,7 +83,7 @@ module _ (t : List ℕ) (checked : Checked) (answer : checked ≡ checkTable t) 
           (fulls-are t (told .0) shape (told .1))
           (rw rows (table-valid t (told .0)))
           (λ v l. absurd (omega arith))
-          (omega arith, λ k l a. absurd (omega arith))
+          (omega arith, omega arith, λ k l a. absurd (omega arith), λ l a b. absurd (omega arith))
           ∙ ap (λ rs. huntedOf (nextPair (domains t) rs)) rows
 
       module _ (target : List ℕ) (room : shape .variables ≤ length target) where

@@ -1,21 +1,20 @@
--- The search taken up from a later place: rows that do not go with the first are passed over, and so are those tried before.
-use Prim.Native.Nat.{ℕ, suc, _+_, _<_, _≤_, max}
-use native.Mathlib.Omega.{arith}
+-- The search taken up from a later place: rows that do not go with the first are passed over, and so are first rows that go with none.
+use Prim.Native.Nat.{ℕ, suc, _<_, _≤_}
 use mathlib.Core.Path.{_≡_, refl, sym, _∙_}
-use mathlib.Core.Bool.{Bool, true, false, false≢true}
+use mathlib.Core.Bool.{Bool, true, false, not, false≢true}
 use mathlib.Core.List.{List}
 use mathlib.Core.Option.{none, some}
 use lib.ListN.{length, getD, drop, drop-of-length-le}
 use lib.Seq.{drop-cons}
+use borrow.Author.Tests.{not-true}
 use Rattle.wcsp.specs.Clause.{bucket}
 use Rattle.wcsp.specs.Row.{Row}
-use Rattle.wcsp.specs.Rule.{permitted}
+use Rattle.wcsp.specs.Rule.{clashing, nested, permitted}
 use Rattle.wcsp.specs.Resolve.{noRow, candidate, partner, pairIn}
+use Rattle.wcsp.proofs.Lists.{and-left, and-right}
 use Rattle.wcsp.proofs.PairSearch.{signsAt, partner-here, partner-later, pairIn-here, pairIn-later}
 use Rattle.wcsp.proofs.PairFound.{partner-is-none}
 use Rattle.wcsp.proofs.NextPair.{candidate-goes, goes-candidate}
-use Rattle.wcsp.proofs.Cleared.{cleared-hunt}
-use Rattle.hunt.specs.Hunt.{Cleared}
 
 -- ---- the test for a candidate
 
@@ -33,9 +32,18 @@ module _ (ds : List ℕ) (s : ℕ) (x y : List ℕ) where
   pub other-second : (bucket y ≡ s → ⊥) → candidate ds s x y ≡ false
   other-second n = not-goes (λ e. n (candidate-goes ds s x y e .secondIn))
 
-  pub in-bucket : bucket x ≡ s → bucket y ≡ s → (b : Bool) → b ≡ permitted ds s x y → candidate ds s x y ≡ b
-  in-bucket p q true e = goes-candidate ds s x y (record { firstIn = p; secondIn = q; may = sym e })
-  in-bucket p q false e = not-goes (λ g. false≢true (e ∙ candidate-goes ds s x y g .may))
+  pub nested-signs : nested (getD x s 0) (getD y s 0) ≡ true → candidate ds s x y ≡ false
+  unfolding permitted
+  nested-signs n = not-goes (λ e. false≢true (sym (not-true _ (and-left _ _ (candidate-goes ds s x y e .may))) ∙ n))
+
+  pub clashing-signs : clashing ds s x y ≡ true → candidate ds s x y ≡ false
+  unfolding permitted
+  clashing-signs n = not-goes
+      (λ e. false≢true (sym (not-true _ (and-right (not (nested (getD x s 0) (getD y s 0))) _ (candidate-goes ds s x y e .may))) ∙ n))
+
+  pub goes : bucket x ≡ s → bucket y ≡ s → nested (getD x s 0) (getD y s 0) ≡ false → clashing ds s x y ≡ false → candidate ds s x y ≡ true
+  unfolding permitted
+  goes p q n c = goes-candidate ds s x y (record { firstIn = p; secondIn = q; may = rw (n, c) })
 
 -- ---- the second row
 
@@ -54,13 +62,6 @@ module _ (ds : List ℕ) (s : ℕ) (x : List ℕ) (rs : List Row) where
   -- a row of another bucket has no second row
   pub partner-other : (j : ℕ) → (bucket x ≡ s → ⊥) → partner ds s x j rs ≡ none
   partner-other j n = partner-is-none ds s x j rs (λ k h. other-first ds s x (signsAt rs k) n)
-
--- second rows tried before are passed over
-pub partner-cleared : (ds : List ℕ) (s i c k : ℕ) (rs : List Row) → Cleared ds s i c rs → k < i → k + 1 < c
-    → partner ds s (signsAt rs k) (suc k) (drop (suc k) rs) ≡ partner ds s (signsAt rs k) c (drop c rs)
-partner-cleared ds s i c k rs f h l =
-    let e : max c (suc k) ≡ c = omega arith in
-    rw e at (cleared-hunt {ds = ds} {s = s} {i = i} {c = c} {rs = rs} (record { clear = f .1 }) k h (omega arith) (f .0))
 
 -- ---- the first row
 

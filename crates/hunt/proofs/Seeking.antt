@@ -2,15 +2,15 @@
 use Prim.Native.Nat.{ℕ, _+_, _*_, _<_, _≤_}
 use native.Mathlib.Numerals.{add-one}
 use native.Mathlib.Omega.{arith}
-use mathlib.Core.Path.{_≡_, sym, ap, _∙_}
-use mathlib.Core.Bool.{Bool, true, false}
+use mathlib.Core.Path.{_≡_, refl, sym, ap, ap₂, _∙_}
+use mathlib.Core.Bool.{Bool, true, false, not}
 use mathlib.Core.List.{List}
-use lib.ListN.{length, drop}
+use lib.ListN.{length, getD, drop}
+use borrow.Author.Tests.{not-true, not-false}
 use Rattle.wcsp.specs.Clause.{ValidClause, bucket}
 use Rattle.wcsp.specs.Row.{ValidRows}
-use Rattle.wcsp.specs.Rule.{permitted}
+use Rattle.wcsp.specs.Rule.{clashing, nested}
 use Rattle.wcsp.specs.Resolve.{candidate, partner}
-use Rattle.wcsp.proofs.PairSearch.{signsAt}
 use Rattle.clause.specs.declared.Clause.{Clause}
 use Rattle.clause.specs.Packed.{signsOf, FullSigns}
 use Rattle.rows.specs.Raw.{rawAt, clauseIn}
@@ -18,7 +18,7 @@ use Rattle.rows.specs.declared.Found.the-variants.{At, Missing}
 use Rattle.table.proofs.RawRows.{length-rowsFrom}
 use Rattle.hunt.specs.Hunt.{foundOf}
 use Rattle.hunt.proofs.TableRows.{rowsIn, in-rows, signs-read, valid-read}
-use Rattle.hunt.proofs.Hunting.{other-second, in-bucket, partner-at, partner-past, partner-end}
+use Rattle.hunt.proofs.Hunting.{other-second, nested-signs, clashing-signs, goes, partner-at, partner-past, partner-end}
 
 module _ (t : List ℕ) (base count : ℕ) (x : Clause) (v : ℕ) (fulls : Clause) where
   -- P holds of every list of sizes with these full signs over which the rows and x are valid, x being of bucket v
@@ -30,31 +30,47 @@ module _ (t : List ℕ) (base count : ℕ) (x : Clause) (v : ℕ) (fulls : Claus
   Sought from j = Over
       (λ ds. partner ds v (signsOf x) from (drop from (rowsIn t base count)) ≡ partner ds v (signsOf x) j (drop j (rowsIn t base count)))
 
-  module _ (from j : ℕ) (h : j < count) (y : Clause) (e : y ≡ clauseIn (rawAt t (base + 5 * j))) where
-    -- what may_resolve answers of row j
-    abbrev Answers : Bool → Type 0
-    Answers b = (ds : List ℕ) → FullSigns fulls ds → ValidClause ds (signsOf x) → ValidClause ds (signsOf y) → b ≡ permitted ds v (signsOf x) (signsOf y)
+  module _ (from j : ℕ) (h : j < count) (sought : Sought from j) where
+    -- the clause of row j
+    abbrev at-j : Clause
+    at-j = clauseIn (rawAt t (base + 5 * j))
 
-    tested : (low : ℕ) → low ≡ bucket (signsOf y) → low ≡ v → (b : Bool) → Answers b
-        → Over (λ ds. candidate ds v (signsOf x) (signsAt (rowsIn t base count) j) ≡ b)
-    tested low l m b a ds f r g k =
-        rw (signs-read t base count j h y e) (in-bucket ds v (signsOf x) (signsOf y) k (sym l ∙ m) b (a ds f g (valid-read t base count j h y e ds r)))
+    passed : Over (λ ds. candidate ds v (signsOf x) (signsOf at-j) ≡ false) → Sought from (j + 1)
+    passed n ds f r g k =
+        rw add-one (sought ds f r g k
+        ∙ partner-past ds v (signsOf x) (rowsIn t base count) j (in-rows t base count j h) (rw (signs-read t base count j h at-j refl) (n ds f r g k)))
 
-    pub found : Sought from j → (low : ℕ) → low ≡ bucket (signsOf y) → low ≡ v → (b : Bool) → Answers b → b ≡ true
-        → Over (λ ds. At j ≡ foundOf (partner ds v (signsOf x) from (drop from (rowsIn t base count))))
-    unfolding foundOf
-    found s low l m b a q ds f r g k =
-        sym (ap foundOf (s ds f r g k ∙ partner-at ds v (signsOf x) (rowsIn t base count) j (in-rows t base count j h) (tested low l m b a ds f r g k ∙ q)))
+    -- the signs at v, and whether they nest
+    module _ (sign : ℕ) (p : sign ≡ getD (signsOf x) v 0) (other : ℕ) (q : other ≡ getD (signsOf at-j) v 0) (b : Bool) (e : b ≡ nested sign other) where
+      nests : nested (getD (signsOf x) v 0) (getD (signsOf at-j) v 0) ≡ b
+      nests = sym (e ∙ ap₂ nested p q)
 
-    passed : Sought from j → Over (λ ds. candidate ds v (signsOf x) (signsAt (rowsIn t base count) j) ≡ false) → Sought from (j + 1)
-    passed s n ds f r g k = rw add-one (s ds f r g k ∙ partner-past ds v (signsOf x) (rowsIn t base count) j (in-rows t base count j h) (n ds f r g k))
+      pub nested-passed : not b ≡ false → Sought from (j + 1)
+      nested-passed o = passed (λ ds f r g k. nested-signs ds v (signsOf x) (signsOf at-j) (nests ∙ not-false b o))
 
-    pub not-permitted : Sought from j → (low : ℕ) → low ≡ bucket (signsOf y) → low ≡ v → (b : Bool) → Answers b → b ≡ false → Sought from (j + 1)
-    not-permitted s low l m b a q = passed s (λ ds f r g k. tested low l m b a ds f r g k ∙ q)
+      module _ (y : Clause) (i : y ≡ at-j) (low : ℕ) (m : low ≡ bucket (signsOf y)) where
+        row-bucket : low ≡ bucket (signsOf at-j)
+        row-bucket = m ∙ ap (λ c. bucket (signsOf c)) i
 
-    pub other-bucket : Sought from j → (low : ℕ) → low ≡ bucket (signsOf y) → (low ≡ v → ⊥) → Sought from (j + 1)
-    other-bucket s low l n = passed s
-        (λ ds f r g k. rw (signs-read t base count j h y e) (other-second ds v (signsOf x) (signsOf y) (λ q. n (l ∙ q))))
+        pub other-bucket : (low ≡ v → ⊥) → Sought from (j + 1)
+        other-bucket n = passed (λ ds f r g k. other-second ds v (signsOf x) (signsOf at-j) (λ o. n (row-bucket ∙ o)))
+
+        -- what clashes answers of row j
+        module _ (c : Bool)
+            (a : (ds : List ℕ) → FullSigns fulls ds → ValidClause ds (signsOf x) → ValidClause ds (signsOf y) → c ≡ clashing ds v (signsOf x) (signsOf y)) where
+          clashes : Over (λ ds. clashing ds v (signsOf x) (signsOf at-j) ≡ c)
+          clashes ds f r g k = sym (a ds f g (valid-read t base count j h y i ds r) ∙ ap (λ c. clashing ds v (signsOf x) (signsOf c)) i)
+
+          pub clash-passed : not c ≡ false → Sought from (j + 1)
+          clash-passed o = passed (λ ds f r g k. clashing-signs ds v (signsOf x) (signsOf at-j) (clashes ds f r g k ∙ not-false c o))
+
+          pub found : not b ≡ true → low ≡ v → not c ≡ true → Over (λ ds. At j ≡ foundOf (partner ds v (signsOf x) from (drop from (rowsIn t base count))))
+          unfolding foundOf
+          found o u w ds f r g k =
+              sym (ap foundOf (sought ds f r g k
+              ∙ partner-at ds v (signsOf x) (rowsIn t base count) j (in-rows t base count j h)
+              (rw (signs-read t base count j h at-j refl)
+              (goes ds v (signsOf x) (signsOf at-j) k (sym row-bucket ∙ u) (nests ∙ not-true b o) (clashes ds f r g k ∙ not-true c w)))))
 
   pub missing : (from j : ℕ) → Sought from j → count ≤ j → Over (λ ds. Missing ≡ foundOf (partner ds v (signsOf x) from (drop from (rowsIn t base count))))
   unfolding foundOf

@@ -1,4 +1,4 @@
--- The answers of a hunt, and what it may rely on: buckets that are settled, and pairs of rows that were tried before.
+-- The answers of a hunt, and what it may rely on: buckets that are settled, and rows that go with none.
 use Prim.Native.Nat.{ℕ, _<_, _≤_}
 use mathlib.Core.Path.{_≡_}
 use mathlib.Core.Bool.{false}
@@ -20,9 +20,12 @@ unfoldable pub huntedOf : Option Pair → Hunted
 huntedOf none = Nothing
 huntedOf (some pr) = Next (pr .variable) (pr .first) (pr .second)
 
--- no two rows of bucket s, the first below i and the second below c, are a candidate
+-- in bucket s no row below i goes with a later one, and row i with none below c
 abbrev pub Cleared : List ℕ → ℕ → ℕ → ℕ → List Row → Type 0
-Cleared ds s i c rs = (c ≤ length rs) × ((k l : ℕ) → k < i → k < l → l < c → candidate ds s (getD rs k noRow .signs) (getD rs l noRow .signs) ≡ false)
+Cleared ds s i c rs =
+    (i ≤ length rs) × (c ≤ length rs)
+    × ((k l : ℕ) → k < i → k < l → l < length rs → candidate ds s (getD rs k noRow .signs) (getD rs l noRow .signs) ≡ false)
+    × ((l : ℕ) → i < l → l < c → candidate ds s (getD rs i noRow .signs) (getD rs l noRow .signs) ≡ false)
 
 -- no bucket below s has a pair
 abbrev pub Settled : List ℕ → ℕ → List Row → Type 0

@@ -1,12 +1,13 @@
-// The hunt for the next pair: bucket by bucket, and within a bucket only pairs that have not been tried before.
+// The hunt for the next pair: bucket by bucket, taken up within a bucket at the first row that can have a partner.
 ghost use mathlib.Core.Path.{_≡_};
 ghost use mathlib.Core.List.{List};
 ghost use Prim.Native.Nat.{ℕ, _+_, _*_, _<_, _≤_};
-ghost use lib.ListN.{length, drop};
+ghost use lib.ListN.{length, getD, drop};
 ghost use Rattle.wcsp.specs.Clause.{ValidClause, bucket};
 ghost use Rattle.wcsp.specs.Row.{ValidRows};
 ghost use Rattle.wcsp.specs.Resolve.{partner, pairIn, nextPair};
 ghost use Rattle.clause.specs.Packed.{signsOf, Packed, FullSigns};
+ghost use Rattle.rows.specs.Raw.{rawAt, clauseIn};
 ghost use Rattle.table.specs.Meaning.{rowsFrom};
 ghost use Rattle.hunt.specs.Hunt.{foundOf, huntedOf, Cleared, Settled};
 use clause::Clause;
@@ -18,7 +19,16 @@ pub enum Hunted {
     Nothing,
 }
 
-// The first row from `from` on, of bucket v, that may be resolved with x on v.
+// The sign of row k at variable v, from one word of the row.
+fn sign_at(t: &[u32], base: usize, k: usize, v: u32) -> u32
+    requires { ⌜ (base + 5 * k + 5 ≤ length (now t)) × (v < 12) ⌝ }
+    ensures { λ r. ⌜ r ≡ getD (signsOf (clauseIn (rawAt (now (t .entry)) (base + 5 * k)))) v 0 ⌝ }
+{
+    let at = base + 5 * k + (v / 3) as usize;
+    (t[at] >> (8 * (v % 3))) % 256
+}
+
+// The first row from `from` on, of bucket v, that may be resolved with x on v. The signs at v tell most rows apart.
 fn seek(
     t: &[u32],
     base: usize,
@@ -31,12 +41,15 @@ fn seek(
     requires { ⌜ (base + 5 * count ≤ length (now t)) × Packed x × Packed fulls × (v < 12) ⌝ }
     ensures { λ r. ⌜ ((ds : List ℕ) → FullSigns fulls ds → ValidRows ds (rowsFrom count (drop base (now (t .entry)))) → ValidClause ds (signsOf x) → bucket (signsOf x) ≡ v → r ≡ foundOf (partner ds v (signsOf x) from (drop from (rowsFrom count (drop base (now (t .entry))))))) ⌝ }
 {
+    let sign = x.sign(v);
     let mut j = from;
     while j < count {
-        let y = rows::clause_of(t, base, j);
-        if y.lowest() == v {
-            if x.may_resolve(y, v, fulls) {
-                return Found::At(j);
+        if !clause::nest(sign, sign_at(t, base, j, v)) {
+            let y = rows::clause_of(t, base, j);
+            if y.lowest() == v {
+                if !x.clashes(y, v, fulls) {
+                    return Found::At(j);
+                }
             }
         }
         j += 1;
@@ -44,32 +57,36 @@ fn seek(
     Found::Missing
 }
 
-// The least pair of bucket v. For first rows below `skip`, second rows below `clear` have been tried before.
+// The least pair of bucket v. No row below `skip` goes with any, and row `skip` with none below `from`.
 fn pair_in(
     t: &[u32],
     base: usize,
     count: usize,
     v: u32,
     skip: usize,
-    clear: usize,
+    from: usize,
     fulls: Clause,
 ) -> Hunted
     requires { ⌜ (base + 5 * count ≤ length (now t)) × Packed fulls × (v < 12) ⌝ }
-    ensures { λ r. ⌜ ((ds : List ℕ) → FullSigns fulls ds → ValidRows ds (rowsFrom count (drop base (now (t .entry)))) → Cleared ds v skip clear (rowsFrom count (drop base (now (t .entry)))) → r ≡ huntedOf (pairIn ds v 0 (rowsFrom count (drop base (now (t .entry)))))) ⌝ }
+    ensures { λ r. ⌜ ((ds : List ℕ) → FullSigns fulls ds → ValidRows ds (rowsFrom count (drop base (now (t .entry)))) → Cleared ds v skip from (rowsFrom count (drop base (now (t .entry)))) → r ≡ huntedOf (pairIn ds v 0 (rowsFrom count (drop base (now (t .entry)))))) ⌝ }
 {
-    let mut i = 0;
+    let mut i = skip;
+    let mut least = from;
     while i < count {
-        let x = rows::clause_of(t, base, i);
-        if x.lowest() == v {
-            let mut from = i + 1;
-            if i < skip && from < clear {
-                from = clear;
-            }
-            let found = seek(t, base, count, x, v, from, fulls);
-            if let Found::At(j) = found {
-                return Hunted::Next(v, i, j);
+        if sign_at(t, base, i, v) != 0 {
+            let x = rows::clause_of(t, base, i);
+            if x.lowest() == v {
+                let mut next = i + 1;
+                if next < least {
+                    next = least;
+                }
+                let found = seek(t, base, count, x, v, next, fulls);
+                if let Found::At(j) = found {
+                    return Hunted::Next(v, i, j);
+                }
             }
         }
+        least = 0;
         i += 1;
     }
     Hunted::Nothing
@@ -82,20 +99,22 @@ pub fn hunt(
     count: usize,
     v: u32,
     skip: usize,
-    clear: usize,
+    from: usize,
     fulls: Clause,
 ) -> Hunted
     requires { ⌜ (base + 5 * count ≤ length (now t)) × Packed fulls × (v ≤ 12) ⌝ }
-    ensures { λ r. ⌜ ((ds : List ℕ) → FullSigns fulls ds → ValidRows ds (rowsFrom count (drop base (now (t .entry)))) → Settled ds v (rowsFrom count (drop base (now (t .entry)))) → Cleared ds v skip clear (rowsFrom count (drop base (now (t .entry)))) → r ≡ huntedOf (nextPair ds (rowsFrom count (drop base (now (t .entry)))))) ⌝ }
+    ensures { λ r. ⌜ ((ds : List ℕ) → FullSigns fulls ds → ValidRows ds (rowsFrom count (drop base (now (t .entry)))) → Settled ds v (rowsFrom count (drop base (now (t .entry)))) → Cleared ds v skip from (rowsFrom count (drop base (now (t .entry)))) → r ≡ huntedOf (nextPair ds (rowsFrom count (drop base (now (t .entry)))))) ⌝ }
 {
     let mut s = v;
-    let mut tried = skip;
+    let mut first = skip;
+    let mut second = from;
     while s < 12 {
-        let found = pair_in(t, base, count, s, tried, clear, fulls);
+        let found = pair_in(t, base, count, s, first, second, fulls);
         if let Hunted::Next(_, _, _) = found {
             return found;
         }
-        tried = 0;
+        first = 0;
+        second = 0;
         s += 1;
     }
     Hunted::Nothing

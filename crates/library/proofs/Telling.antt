@@ -2,9 +2,13 @@
 use Prim.Native.Nat.{ℕ}
 use mathlib.Core.Path.{_≡_, sym, ap, _∙_}
 use mathlib.Core.List.{List, [], _∷_}
+use lib.ListN.{take}
 use Rattle.input.specs.declared.Answer.{Answer}
 use Rattle.resolution.specs.declared.StepAnswer.{StepAnswer}
 use Rattle.resolution.specs.declared.RunAnswer.{RunAnswer}
+use Rattle.checker.specs.declared.CheckAnswer.{CheckAnswer}
+use Rattle.calls.specs.declared.Driven.{Driven}
+use Rattle.calls.specs.Demand.{Upheld}
 use Rattle.library.specs.Noted.{noted}
 use Rattle.library.specs.Fields.{stepNumber, stepFields, outcomeField, runFields}
 
@@ -22,3 +26,17 @@ step-told answer call found xs ys e f h =
 pub run-told : (answer call : RunAnswer) (field : ℕ) (xs ys : List ℕ) → answer ≡ call → field ≡ outcomeField (answer .outcome)
     → ys ≡ noted xs (field ∷ (answer .steps ∷ (answer .bound ∷ []))) → ys ≡ noted xs (runFields call)
 run-told answer call field xs ys e f h = (rw f at h) ∙ ap (λ (a : RunAnswer). noted xs (runFields a)) e
+
+pub check-told : (answer call : CheckAnswer) (xs ys : List ℕ) → answer ≡ call → ys ≡ noted xs (answer .steps ∷ [])
+    → (answer .number ≡ call .number) × (ys ≡ noted xs (call .steps ∷ []))
+check-told answer call xs ys e h =
+    (ap (λ (a : CheckAnswer). a .number) e, h ∙ ap (λ (a : CheckAnswer). noted xs (a .steps ∷ [])) e)
+
+pub drive-told : (answer call : Driven) (xs ys : List ℕ) → answer ≡ call → ys ≡ noted xs (answer .steps ∷ [])
+    → (answer .number ≡ call .number) × (ys ≡ noted xs (call .steps ∷ []))
+drive-told answer call xs ys e h = (ap (λ (a : Driven). a .number) e, h ∙ ap (λ (a : Driven). noted xs (a .steps ∷ [])) e)
+
+pub upheld-told : (answer call : Driven) (inst t left out : List ℕ) → answer ≡ call
+    → (answer .number ≡ 0 → Upheld inst t left (take (answer .steps) out)) → answer .number ≡ 0
+    → Upheld inst t left (take (call .steps) out)
+upheld-told answer call inst t left out e h good = rw e at (h good)

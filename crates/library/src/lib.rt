@@ -1,12 +1,16 @@
 // The public calls for C and Rust: numbers and slices alone cross the boundary. Each returns its number, 0 for success, and writes its other fields to an answer slice.
 ghost use mathlib.Core.Path.{_≡_};
 ghost use mathlib.Core.List.{List, [], _∷_};
+ghost use lib.ListN.{take};
 ghost use Rattle.input.specs.Calls.{costCall};
 ghost use Rattle.sheet.specs.Calls.{makeCall};
 ghost use Rattle.encoding.specs.Calls.{encodeCall};
 ghost use Rattle.resolution.specs.Calls.{stepCall, runCall};
 ghost use Rattle.assignment.specs.Calls.{planCall};
 ghost use Rattle.readout.specs.Calls.{readoutCall};
+ghost use Rattle.checker.specs.Calls.{checkCall};
+ghost use Rattle.calls.specs.Demand.{Upheld};
+ghost use Rattle.calls.specs.Driver.{driveAll};
 ghost use Rattle.library.specs.Noted.{noted};
 ghost use Rattle.library.specs.Fields.{stepNumber, stepFields, outcomeNumber, outcomeField, runNumber, runFields};
 use resolution::Outcome;
@@ -127,6 +131,23 @@ pub extern "C" fn gotalhim_plan(table: &[u32], target: &mut [u8]) -> u32
     assignment::plan(table, target)
 }
 
+// Replay a derivation in a work table, and judge a plan and its claimed cost. Answer: the steps replayed.
+#[no_mangle]
+pub extern "C" fn gotalhim_check(
+    instance: &[u32],
+    derivation: &[u32],
+    plan: &[u8],
+    claimed: u64,
+    table: &mut [u32],
+    answer: &mut [u64],
+) -> u32
+    ensures { λ r. ⌜ (r ≡ checkCall (now (instance .entry)) (now (derivation .entry)) (now (plan .entry)) claimed (now (table .entry)) .answer .number) × (now (table .exit) ≡ checkCall (now (instance .entry)) (now (derivation .entry)) (now (plan .entry)) claimed (now (table .entry)) .table) × (now (answer .exit) ≡ noted (now (answer .entry)) (checkCall (now (instance .entry)) (now (derivation .entry)) (now (plan .entry)) claimed (now (table .entry)) .answer .steps ∷ [])) ⌝ }
+{
+    let checked = checker::check(instance, derivation, plan, claimed, table);
+    note(answer, checked.steps as u64);
+    checked.number
+}
+
 // The metres from a position to the place of an assignment's value. Answer: the metres.
 #[no_mangle]
 pub extern "C" fn gotalhim_readout(
@@ -152,4 +173,21 @@ pub extern "C" fn gotalhim_cost(instance: &[u32], plan: &[u8], answer: &mut [u64
     let cost = input::cost(instance, plan);
     note(answer, cost.value);
     cost.number
+}
+
+// Encode an instance, then make the calls of a list of words. Answer: the steps made. Where the encoding is good, demand 3 holds of what is left.
+#[no_mangle]
+pub extern "C" fn gotalhim_drive(
+    instance: &[u32],
+    table: &mut [u32],
+    calls: &[u32],
+    derivation: &mut [u32],
+    target: &mut [u8],
+    answer: &mut [u64],
+) -> u32
+    ensures { λ r. ⌜ (r ≡ driveAll (now (instance .entry)) (now (table .entry)) (now (calls .entry)) (now (derivation .entry)) (now (target .entry)) .answer .number) × (now (table .exit) ≡ driveAll (now (instance .entry)) (now (table .entry)) (now (calls .entry)) (now (derivation .entry)) (now (target .entry)) .table) × (now (derivation .exit) ≡ driveAll (now (instance .entry)) (now (table .entry)) (now (calls .entry)) (now (derivation .entry)) (now (target .entry)) .out) × (now (target .exit) ≡ driveAll (now (instance .entry)) (now (table .entry)) (now (calls .entry)) (now (derivation .entry)) (now (target .entry)) .target) × (now (answer .exit) ≡ noted (now (answer .entry)) (driveAll (now (instance .entry)) (now (table .entry)) (now (calls .entry)) (now (derivation .entry)) (now (target .entry)) .answer .steps ∷ [])) × (r ≡ 0 → Upheld (now (instance .entry)) (now (table .entry)) (now (table .exit)) (take (driveAll (now (instance .entry)) (now (table .entry)) (now (calls .entry)) (now (derivation .entry)) (now (target .entry)) .answer .steps) (now (derivation .exit)))) ⌝ }
+{
+    let driven = calls::drive(instance, table, calls, derivation, target);
+    note(answer, driven.steps as u64);
+    driven.number
 }

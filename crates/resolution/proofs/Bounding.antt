@@ -36,6 +36,14 @@ module _ (t : List ℕ) (v : validTable t ≡ true) (base count : ℕ) (b : base
   pub find-room : base + 5 * count ≤ length t
   find-room = rw (b, n) (ready t v .room)
 
+  -- row k's words, and the weight in them
+  pub row-room : (k : ℕ) → k < rowCount t → base + 5 * k + 5 ≤ length t
+  row-room k h = omega (arith, find-room, n)
+
+  pub row-weight : (k : ℕ) → k < rowCount t → (w : ℕ) → w ≡ rawAt t (base + 5 * k) .w % 268435456 → w ≡ getD (tableRows t) k noRow .weight
+  unfolding rowOf
+  row-weight k h w p = p ∙ ap (λ m. rawAt t (m + 5 * k) .w % 268435456) b ∙ sym (ap (λ r. r .weight) (row-at t k h))
+
   module _ (x : Clause) (h : Holds x (replicate 12 0)) (found : Found) (e : found ≡ findFrom (rawRow x 0) 0 (rawsIn t base count)) where
     searched : found ≡ findFrom (rawRow x 0) 0 (map rawOf (tableRows t))
     searched = e ∙ ap (findFrom (rawRow x 0) 0) (rw (b, n) (ready t v .raws))
@@ -52,13 +60,12 @@ module _ (t : List ℕ) (v : validTable t ≡ true) (base count : ℕ) (b : base
       in-count = omega (arith, first .within, ready t v .long)
 
       pub weight-room : base + 5 * k + 5 ≤ length t
-      weight-room = omega (arith, in-count, find-room, n)
+      weight-room = row-room k in-count
 
       pub empty-at : (w : ℕ) → w ≡ rawAt t (base + 5 * k) .w % 268435456 → w ≡ emptyWeight 12 (tableRows t)
-      unfolding emptyWeight rowOf
+      unfolding emptyWeight
       empty-at w p =
-          p ∙ ap (λ m. rawAt t (m + 5 * k) .w % 268435456) b
-          ∙ sym (first-weight (replicate 12 0) (tableRows t) k first ∙ ap (λ r. r .weight) (row-at t k in-count))
+          row-weight k in-count w p ∙ sym (first-weight (replicate 12 0) (tableRows t) k first)
 
 -- an answer with an equal bound
 pub same-bound : (o : Outcome) (n : ℕ) {b c : ℕ} → b ≡ c

@@ -1,23 +1,24 @@
 -- What a run keeps from turn to turn: a valid table of the same sizes and length, the run that is still to go, the words of the steps made in
--- front of the slice, and what the next hunt may pass over.
+-- front of the slice, and where the next hunt goes on.
 use Prim.Native.Nat.{ℕ, zero, suc, _+_, _-_, _*_, _<_, _≤_, min}
 use native.Mathlib.Omega.{arith}
 use native.Mathlib.Numerals.{add-one}
 use mathlib.Core.Path.{_≡_, refl, sym, ap, ap₂, _∙_}
-use mathlib.Core.Bool.{Bool, true, false}
+use mathlib.Core.Bool.{Bool, true, false, cond}
 use mathlib.Core.List.{List, [], _∷_, _++_, append-assoc}
 use mathlib.Core.Option.{Option, none, some}
 use lib.ListN.{length, getD, drop, set, length-set, length-append}
 use lib.Seq.{drop-cons, set-at}
+use lib.Dec.{ltb}
+use borrow.Author.Tests.{ltb-true, lt-ltb, le-ltb}
 use Rattle.wcsp.specs.Row.{Row, emptyWeight}
-use Rattle.wcsp.specs.Resolve.{Pair, pairIn, nextPair, resolve}
+use Rattle.wcsp.specs.Resolve.{Pair, noRow, pairIn, nextPair, resolve}
 use Rattle.wcsp.specs.Theorems.{Candidate}
 use Rattle.wcsp.proofs.NextPair.{nextIsLeast}
 use Rattle.wcsp.proofs.PairSearch.{PairFrom, pairFrom-some}
 use Rattle.wcsp.proofs.PairFound.{pairIn-is, pairIn-is-none}
-use Rattle.wcsp.proofs.AsWritten.{removed, gone, resolve-length}
 use Rattle.wcsp.proofs.Settled.{settled-kept}
-use Rattle.wcsp.proofs.Cleared.{cleared-kept}
+use Rattle.wcsp.proofs.Cleared.{first-in, second-in, passed-before, passed-here}
 use Rattle.clause.specs.declared.Clause.{Clause}
 use Rattle.clause.specs.Packed.{Packed}
 use Rattle.table.specs.declared.Shape.{Shape}
@@ -30,10 +31,10 @@ use Rattle.hunt.specs.declared.Hunted.{Hunted}
 use Rattle.hunt.specs.declared.Hunted.the-variants.{Next, Nothing}
 use Rattle.hunt.specs.Hunt.{Cleared, Settled}
 use Rattle.stepping.specs.Step.{Stepping, finished, refusing, stepping, allowed, oneStep, pairWord}
-use Rattle.stepping.specs.Advance.{withRows, usedUp}
+use Rattle.stepping.specs.Advance.{withRows}
 use Rattle.resolution.specs.declared.Outcome.{Outcome}
 use Rattle.resolution.specs.declared.RunAnswer.{RunAnswer}
-use Rattle.resolution.specs.Run.{Ending, done, paused, stopped, Ran, after, atLimit, runRows}
+use Rattle.resolution.specs.Run.{Ending, done, paused, stopped, Ran, after, atLimit, runRows, resumed}
 use Rattle.resolution.specs.Calls.{outcomeOf, runReturns, runCall}
 use Rattle.resolution.proofs.Bounding.{ready, find-room}
 use Rattle.resolution.proofs.Single.{fulls-packed, Hunts, hunt-none, hunt-some, permitted, Advances, Following, following, no-step, next-step, settled-start, cleared-start}
@@ -66,7 +67,7 @@ module _ (ds : List ℕ) (cap k : ℕ) (rs : List Row) (words : List ℕ) where
 
 -- ---- what is kept
 
-pub record Going (t₀ : List ℕ) (most : ℕ) (slice₀ t slice : List ℕ) (count bucket skip clear made : ℕ) : Type 0 where
+pub record Going (t₀ : List ℕ) (most : ℕ) (slice₀ t slice : List ℕ) (count bucket skip from made : ℕ) : Type 0 where
   pub words : List ℕ
   pub valid : validTable t ≡ true
   pub long : length t ≡ length t₀
@@ -82,7 +83,7 @@ pub record Going (t₀ : List ℕ) (most : ℕ) (slice₀ t slice : List ℕ) (c
   pub asLong : length slice ≡ length slice₀
   pub known : bucket ≤ 12
   pub settled : Settled (domains t) bucket (tableRows t)
-  pub cleared : Cleared (domains t) bucket skip clear (tableRows t)
+  pub cleared : Cleared (domains t) bucket skip from (tableRows t)
 
 pub going-start : (t : List ℕ) (most : ℕ) (slice : List ℕ) (count : ℕ) → validTable t ≡ true → count ≡ rowCount t → most ≤ length slice
     → Going t most slice t slice count 0 0 0 0
@@ -107,7 +108,7 @@ going-start t most slice count v n h =
       cleared = cleared-start t;
     }
 
--- ---- the next pair's place, and what stays settled and cleared
+-- ---- the next pair's place, and where the hunt goes on after a step
 
 module _ (ds : List ℕ) (rs : List Row) (pr : Pair) (next : nextPair ds rs ≡ some pr) where
   found : PairFrom ds (length ds) 0 rs pr
@@ -127,21 +128,49 @@ module _ (ds : List ℕ) (rs : List Row) (pr : Pair) (next : nextPair ds rs ≡ 
       let e : 0 + u ≡ u = omega arith in
       rw e at (pairIn-is-none ds (0 + u) 0 rs (found .earlier u (omega (arith, on))))
 
-used-removed : (pr : Pair) (rs : List Row) → usedUp pr rs ≡ removed pr rs
-unfolding removed gone
-used-removed pr rs = refl
+-- the two weights compared
+module _ (rs : List Row) (i j : ℕ) {first second : ℕ} (e : first ≡ getD rs i noRow .weight) (f : second ≡ getD rs j noRow .weight) where
+  pub resumed-stays : second < first → j ≡ resumed rs i j
+  unfolding resumed
+  resumed-stays h = let l : getD rs j noRow .weight < getD rs i noRow .weight = omega arith in rw (lt-ltb (getD rs j noRow .weight) (getD rs i noRow .weight) l)
+
+  pub resumed-anew : first ≤ second → 0 ≡ resumed rs i j
+  unfolding resumed
+  resumed-anew h = let l : getD rs i noRow .weight ≤ getD rs j noRow .weight = omega arith in rw (le-ltb (getD rs j noRow .weight) (getD rs i noRow .weight) l)
 
 module _ (t : List ℕ) (v : validTable t ≡ true) (pr : Pair) (next : nextPair (domains t) (tableRows t) ≡ some pr) where
   pub still-settled : Settled (domains t) (pr .variable) (resolve (domains t) pr (tableRows t))
   still-settled u h =
       settled-kept (ready t v .valid) (nextIsLeast (domains t) (tableRows t) pr .0 next .is) u h (none-below (domains t) (tableRows t) pr next u h)
 
-  pub still-cleared : (old : ℕ) → old ≡ length (tableRows t) - usedUp pr (tableRows t)
-      → Cleared (domains t) (pr .variable) (pr .first) old (resolve (domains t) pr (tableRows t))
-  still-cleared old e =
-      let r : old ≡ length (tableRows t) - removed pr (tableRows t) = e ∙ ap (λ k. length (tableRows t) - k) (used-removed pr (tableRows t)) in
-      let l = resolve-length (ready t v .valid) (permitted t v pr next) in
-      (omega arith, rw r (cleared-kept (ready t v .valid) (pair-here (domains t) (tableRows t) pr next) .clear))
+  pub still-cleared : (from : ℕ) → from ≡ resumed (tableRows t) (pr .first) (pr .second)
+      → Cleared (domains t) (pr .variable) (pr .first) from (resolve (domains t) pr (tableRows t))
+  unfolding resumed
+  still-cleared from e = go (ltb (getD (tableRows t) (pr .second) noRow .weight) (getD (tableRows t) (pr .first) noRow .weight)) refl e
+    where
+      here : pairIn (domains t) (pr .variable) 0 (tableRows t) ≡ some pr
+      here = pair-here (domains t) (tableRows t) pr next
+
+      ahead : pr .first ≤ length (resolve (domains t) pr (tableRows t))
+      ahead = first-in (domains t) (tableRows t) pr (ready t v .valid) here
+
+      go : (b : Bool) → ltb (getD (tableRows t) (pr .second) noRow .weight) (getD (tableRows t) (pr .first) noRow .weight) ≡ b → from ≡ cond b (pr .second) 0
+          → Cleared (domains t) (pr .variable) (pr .first) from (resolve (domains t) pr (tableRows t))
+      go true p q =
+          let h = ltb-true _ _ p in
+          rw q (
+            ahead,
+            second-in (domains t) (tableRows t) pr (ready t v .valid) here h,
+            λ k l f m n. passed-before (domains t) (tableRows t) pr (ready t v .valid) here k l f n,
+            passed-here (domains t) (tableRows t) pr (ready t v .valid) here h,
+          )
+      go false p q =
+          rw q (
+            ahead,
+            omega arith,
+            λ k l f m n. passed-before (domains t) (tableRows t) pr (ready t v .valid) here k l f n,
+            λ l m n. absurd (omega arith),
+          )
 
 -- ---- the word in its place
 
@@ -154,8 +183,8 @@ word-put words slice₀ made w e h =
 
 -- ---- a turn
 
-module _ {t₀ : List ℕ} {most : ℕ} {slice₀ t slice : List ℕ} {count bucket skip clear made : ℕ}
-    (g : Going t₀ most slice₀ t slice count bucket skip clear made) where
+module _ {t₀ : List ℕ} {most : ℕ} {slice₀ t slice : List ℕ} {count bucket skip from made : ℕ}
+    (g : Going t₀ most slice₀ t slice count bucket skip from made) where
   -- the whole run, told from here
   abbrev whole : Ran
   whole = runRows (domains t₀) (capacityOf t₀) most (tableRows t₀) []
@@ -203,13 +232,13 @@ module _ {t₀ : List ℕ} {most : ℕ} {slice₀ t slice : List ℕ} {count buc
         let u = fulls-here in
         λ i. record { variables = n i; count = k i; fulls = u i }
 
-    module _ {found : Hunted} (answer : Hunts t base count fulls bucket skip clear found) where
+    module _ {found : Hunted} (answer : Hunts t base count fulls bucket skip from found) where
       pub none-left : found ≡ Nothing → nextPair (domains t) (tableRows t) ≡ none
-      none-left = hunt-none t (g .valid) base count base-here (g .counted) fulls fulls-here bucket skip clear (g .settled) (g .cleared) found answer
+      none-left = hunt-none t (g .valid) base count base-here (g .counted) fulls fulls-here bucket skip from (g .settled) (g .cleared) found answer
 
       pub one-next : {v i j : ℕ} → found ≡ Next v i j → nextPair (domains t) (tableRows t) ≡ some (record { variable = v; first = i; second = j })
       one-next {v} {i} {j} =
-          hunt-some t (g .valid) base count base-here (g .counted) fulls fulls-here bucket skip clear (g .settled) (g .cleared) found answer v i j
+          hunt-some t (g .valid) base count base-here (g .counted) fulls fulls-here bucket skip from (g .settled) (g .cleared) found answer v i j
 
   pub gives-done : nextPair (domains t) (tableRows t) ≡ none → (r : RunAnswer)
       → r ≡ record { outcome = Outcome.Done; steps = made; bound = emptyWeight 12 (tableRows t) } → Gives r t slice
@@ -239,8 +268,9 @@ module _ {t₀ : List ℕ} {most : ℕ} {slice₀ t slice : List ℕ} {count buc
           (p ∙ ap₂ (λ m u. record { outcome = Outcome.Refused m; steps = made; bound = emptyWeight 12 (tableRows u) }) q b) b
 
       pub going-on : (now old : ℕ) (t′ : List ℕ) → Advances t pr now old t′ → (w : ℕ) → w ≡ pairWord pr
-          → Going t₀ most slice₀ t′ (set slice made w) now (pr .variable) (pr .first) old (made + 1)
-      going-on now old t′ a w p =
+          → (from′ : ℕ) → from′ ≡ resumed (tableRows t) (pr .first) (pr .second)
+          → Going t₀ most slice₀ t′ (set slice made w) now (pr .variable) (pr .first) from′ (made + 1)
+      going-on now old t′ a w p from′ z =
           let f = following t (g .valid) pr next now old t′ a in
           let one : made + 1 ≡ suc made = omega arith in
           let fits : made < length slice₀ = omega (arith, g .within, g .room, h) in
@@ -268,7 +298,7 @@ module _ {t₀ : List ℕ} {most : ℕ} {slice₀ t slice : List ℕ} {count buc
             asLong = length-set slice made w ∙ g .asLong;
             known = omega (arith, permitted t (g .valid) pr next .known, ready t (g .valid) .twelve);
             settled = rw (d, rows) (still-settled t (g .valid) pr next);
-            cleared = rw (d, rows) (still-cleared t (g .valid) pr next old (a .stayed));
+            cleared = rw (d, rows) (still-cleared t (g .valid) pr next from′ z);
           }
 
 -- ---- the run call

@@ -85,9 +85,9 @@ next-some (some pr) a b c e = ap some (λ i. record { variable = fst (e i); firs
 
 -- what a hunt from bucket s answers of the rows in a table
 abbrev pub Hunts : List ℕ → ℕ → ℕ → Clause → ℕ → ℕ → ℕ → Hunted → Type 0
-Hunts t base count fulls s skip clear found =
+Hunts t base count fulls s skip from found =
     (ds : List ℕ) → FullSigns fulls ds → ValidRows ds (rowsFrom count (drop base t)) → Settled ds s (rowsFrom count (drop base t))
-    → Cleared ds s skip clear (rowsFrom count (drop base t)) → found ≡ huntedOf (nextPair ds (rowsFrom count (drop base t)))
+    → Cleared ds s skip from (rowsFrom count (drop base t)) → found ≡ huntedOf (nextPair ds (rowsFrom count (drop base t)))
 
 module _ (t : List ℕ) (v : validTable t ≡ true) (base count : ℕ) (b : base ≡ variablesOf t + 2) (n : count ≡ rowCount t) (fulls : Clause)
     (f : fulls ≡ fullClause (domains t)) where
@@ -98,8 +98,8 @@ module _ (t : List ℕ) (v : validTable t ≡ true) (base count : ℕ) (b : base
   unfolding tableRows
   rows-read = ap₂ (λ m k. rowsFrom m (drop k t)) n b
 
-  module _ (s skip clear : ℕ) (settled : Settled (domains t) s (tableRows t)) (cleared : Cleared (domains t) s skip clear (tableRows t)) (found : Hunted)
-      (answer : Hunts t base count fulls s skip clear found) where
+  module _ (s skip from : ℕ) (settled : Settled (domains t) s (tableRows t)) (cleared : Cleared (domains t) s skip from (tableRows t)) (found : Hunted)
+      (answer : Hunts t base count fulls s skip from found) where
     hunted : found ≡ huntedOf (nextPair (domains t) (tableRows t))
     hunted =
         let r = ready t v in
@@ -113,12 +113,12 @@ module _ (t : List ℕ) (v : validTable t ≡ true) (base count : ℕ) (b : base
     pub hunt-some : (a i j : ℕ) → found ≡ Next a i j → nextPair (domains t) (tableRows t) ≡ some (record { variable = a; first = i; second = j })
     hunt-some a i j q = next-some (nextPair (domains t) (tableRows t)) a i j (sym hunted ∙ q)
 
--- before the first step nothing is settled and nothing was tried
+-- before the first step nothing is settled and no row is passed
 pub settled-start : (t : List ℕ) → Settled (domains t) 0 (tableRows t)
 settled-start t u h = absurd (omega arith)
 
 pub cleared-start : (t : List ℕ) → Cleared (domains t) 0 0 0 (tableRows t)
-cleared-start t = (omega arith, λ k l h m n. absurd (omega arith))
+cleared-start t = (omega arith, omega arith, λ k l h m n. absurd (omega arith), λ l m n. absurd (omega arith))
 
 -- the first hunt in a table, with the shape that the test gave
 module _ (t : List ℕ) (v : validTable t ≡ true) (shape : Shape) (e : shape ≡ shapeOf t) where

@@ -1,9 +1,12 @@
 -- Several steps on rows: a run, with its tests before each step in document 01's order.
 use Prim.Native.Nat.{ℕ, zero, suc}
+use mathlib.Core.Bool.{cond}
 use mathlib.Core.List.{List, [], _∷_, _++_}
 use mathlib.Core.Option.{Option, none, some}
+use lib.ListN.{getD}
+use lib.Dec.{ltb}
 use Rattle.wcsp.specs.Row.{Row}
-use Rattle.wcsp.specs.Resolve.{Pair, nextPair}
+use Rattle.wcsp.specs.Resolve.{Pair, noRow, nextPair}
 use Rattle.stepping.specs.Step.{Stepping, finished, refusing, stepping, oneStep, pairWord}
 
 -- why a run ended
@@ -38,3 +41,7 @@ runRows ds cap (suc k) rs made =
     (λ number. record { ending = stopped number; rows = rs; made = made })
     (λ pr rs′. runRows ds cap k rs′ (made ++ (pairWord pr ∷ [])))
     (oneStep ds cap rs)
+
+-- where the hunt for a second row goes on after a step on rows i and j: a heavier row i stays, and the hunt goes on at row j's place; else anew
+unfoldable pub resumed : List Row → ℕ → ℕ → ℕ
+resumed rs i j = cond (ltb (getD rs j noRow .weight) (getD rs i noRow .weight)) j 0

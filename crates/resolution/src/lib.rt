@@ -2,7 +2,7 @@
 ghost use mathlib.Core.Path.{_≡_};
 ghost use mathlib.Core.Bool.{true};
 ghost use mathlib.Core.List.{[]};
-ghost use Prim.Native.Nat.{ℕ, _+_, _≤_, min};
+ghost use Prim.Native.Nat.{ℕ, _+_, _<_, _≤_, min};
 ghost use lib.ListN.{length};
 ghost use Rattle.wcsp.specs.Row.{emptyWeight};
 ghost use Rattle.input.specs.Instance.{maxVariables};
@@ -10,7 +10,7 @@ ghost use Rattle.table.specs.Meaning.{variablesOf, rowCount, tableRows, domains
 ghost use Rattle.table.specs.Valid.{validTable};
 ghost use Rattle.table.specs.Check.{shapeOf, capacityOf};
 ghost use Rattle.stepping.specs.declared.Advanced.{Advanced};
-ghost use Rattle.resolution.specs.Run.{runRows};
+ghost use Rattle.resolution.specs.Run.{resumed, runRows};
 ghost use Rattle.resolution.specs.Calls.{stepCall, runReturns, runCall};
 use clause::Clause;
 use hunt::Hunted;
@@ -101,7 +101,17 @@ fn ended(t: &[u32], base: usize, count: usize, outcome: Outcome, steps: usize) -
     }
 }
 
-// Up to `most` steps on a valid table. The hunt goes on at the bucket of the last step, and tries no pair of rows again.
+// The second row at which the hunt goes on after a step on rows i and j. A heavier row i stays and goes with none before row j's place.
+fn resume(t: &[u32], base: usize, i: usize, j: usize) -> usize
+    requires { ⌜ (validTable (now t) ≡ true) × (base ≡ variablesOf (now t) + 2) × (i < rowCount (now t)) × (j < rowCount (now t)) ⌝ }
+    ensures { λ r. ⌜ r ≡ resumed (tableRows (now (t .entry))) i j ⌝ }
+{
+    let first = rows::weight_of(t, base, i);
+    let second = rows::weight_of(t, base, j);
+    if second < first { j } else { 0 }
+}
+
+// Up to `most` steps on a valid table. The hunt goes on at the bucket and the first row of the last step.
 fn run_valid(t: &mut [u32], shape: Shape, most: usize, slice: &mut [u32]) -> RunAnswer
     requires { ⌜ (validTable (now t) ≡ true) × (shape ≡ shapeOf (now t)) × (most ≤ length (now slice)) ⌝ }
     ensures { λ r. ⌜ (r ≡ runReturns (now (t .entry)) (now (slice .entry)) (runRows (domains (now (t .entry))) (capacityOf (now (t .entry))) most (tableRows (now (t .entry))) []) .answer) × (now (t .exit) ≡ runReturns (now (t .entry)) (now (slice .entry)) (runRows (domains (now (t .entry))) (capacityOf (now (t .entry))) most (tableRows (now (t .entry))) []) .table) × (now (slice .exit) ≡ runReturns (now (t .entry)) (now (slice .entry)) (runRows (domains (now (t .entry))) (capacityOf (now (t .entry))) most (tableRows (now (t .entry))) []) .slice) ⌝ }
@@ -112,10 +122,10 @@ fn run_valid(t: &mut [u32], shape: Shape, most: usize, slice: &mut [u32]) -> Run
     let mut count = shape.count;
     let mut bucket = 0;
     let mut skip = 0;
-    let mut clear = 0;
+    let mut from = 0;
     let mut made = 0;
     loop {
-        let found = hunt::hunt(t, base, count, bucket, skip, clear, fulls);
+        let found = hunt::hunt(t, base, count, bucket, skip, from, fulls);
         let Hunted::Next(v, i, j) = found else {
             return ended(t, base, count, Outcome::Done, made);
         };
@@ -127,8 +137,9 @@ fn run_valid(t: &mut [u32], shape: Shape, most: usize, slice: &mut [u32]) -> Run
             count,
             fulls,
         };
+        let next = resume(t, base, i, j);
         let advanced = stepping::advance(t, here, v, i, j);
-        let Advanced::Made(now, old) = advanced else {
+        let Advanced::Made(now, _) = advanced else {
             return ended(t, base, count, Outcome::Refused(refusal_in(advanced)), made);
         };
         slice[made] = words::step(v, i as u32, j as u32);
@@ -136,11 +147,11 @@ fn run_valid(t: &mut [u32], shape: Shape, most: usize, slice: &mut [u32]) -> Run
         count = now;
         bucket = v;
         skip = i;
-        clear = old;
+        from = next;
     }
 }
 
-// A run: single steps, tested before each: done, paused, 11, 12. It tests the table once and never tries a pair of rows again.
+// A run: single steps, tested before each: done, paused, 11, 12. It tests the table once, and each hunt goes on where the last one ended.
 pub fn run(t: &mut [u32], limit: usize, slice: &mut [u32]) -> RunAnswer
     ensures { λ r. ⌜ (r ≡ runCall (now (t .entry)) limit (now (slice .entry)) .answer) × (now (t .exit) ≡ runCall (now (t .entry)) limit (now (slice .entry)) .table) × (now (slice .exit) ≡ runCall (now (t .entry)) limit (now (slice .entry)) .slice) ⌝ }
 {

@@ -27,5 +27,6 @@ pub mod Raising
 pub mod AsWritten
 pub mod TooHeavy
 pub mod Settled
+pub mod Passed
 pub mod Cleared
 pub mod Least

@@ -25,8 +25,12 @@ use Rattle.wcsp.proofs.AsWritten.{keptOf, lessened, resolve-as-written}
 
 -- ---- rows without a pair, row by row
 
+pub each-weaken : {P Q : List ℕ → Type 0} {cs : List (List ℕ)} → ((c : List ℕ) → P c → Q c) → Each P cs → Each Q cs
+each-weaken f nilEach = nilEach
+each-weaken f (consEach {c = c} h t) = consEach (f c h) (each-weaken f t)
+
 -- no row goes with x
-data Alone (ds : List ℕ) (s : ℕ) (x : List ℕ) : List Row → Type 0 where
+pub data Alone (ds : List ℕ) (s : ℕ) (x : List ℕ) : List Row → Type 0 where
   nilAlone : Alone ds s x []
   consAlone : {r : Row} {rs : List Row} → candidate ds s x (r .signs) ≡ false → Alone ds s x rs → Alone ds s x (r ∷ rs)
 
@@ -36,7 +40,7 @@ data Quiet (ds : List ℕ) (s : ℕ) : List Row → Type 0 where
   consQuiet : {r : Row} {rs : List Row} → Alone ds s (r .signs) rs → Quiet ds s rs → Quiet ds s (r ∷ rs)
 
 module _ (ds : List ℕ) (s : ℕ) where
-  alone : (x : List ℕ) (rs : List Row) → ((k : ℕ) → k < length rs → candidate ds s x (signsAt rs k) ≡ false) → Alone ds s x rs
+  pub alone : (x : List ℕ) (rs : List Row) → ((k : ℕ) → k < length rs → candidate ds s x (signsAt rs k) ≡ false) → Alone ds s x rs
   alone x [] f = nilAlone
   alone x (r ∷ rs) f = consAlone (f 0 (omega arith)) (alone x rs (λ k h. f (suc k) (omega arith)))
 
@@ -46,7 +50,7 @@ module _ (ds : List ℕ) (s : ℕ) where
       consQuiet (alone (r .signs) rs (λ k h. f 0 (suc k) (omega arith) (omega arith)))
       (quiet rs (λ c d l h. f (suc c) (suc d) (omega arith) (omega arith)))
 
-  alone-at : (x : List ℕ) {rs : List Row} → Alone ds s x rs → (k : ℕ) → k < length rs → candidate ds s x (signsAt rs k) ≡ false
+  pub alone-at : (x : List ℕ) {rs : List Row} → Alone ds s x rs → (k : ℕ) → k < length rs → candidate ds s x (signsAt rs k) ≡ false
   alone-at x nilAlone k h = absurd (omega arith)
   alone-at x (consAlone e a) zero h = e
   alone-at x (consAlone e a) (suc k) h = alone-at x a k (omega arith)
@@ -59,7 +63,7 @@ module _ (ds : List ℕ) (s : ℕ) where
   quiet-at (consQuiet {r = r} a q) (suc c) (suc d) l h = quiet-at q c d (omega arith) (omega arith)
 
   -- taking weight away changes no signs, and a row less changes nothing for the others
-  alone-lessen : (x : List ℕ) (u i : ℕ) {rs : List Row} → Alone ds s x rs → Alone ds s x (lessen u i rs)
+  pub alone-lessen : (x : List ℕ) (u i : ℕ) {rs : List Row} → Alone ds s x rs → Alone ds s x (lessen u i rs)
   unfolding lessen
   alone-lessen x u i nilAlone = nilAlone
   alone-lessen x u zero (consAlone {r = r} {rs = rs} e a) = go (eqb (r .weight - u) 0)
@@ -79,7 +83,7 @@ module _ (ds : List ℕ) (s : ℕ) where
       go false = consQuiet a q
   quiet-lessen u (suc i) (consQuiet {r = r} a q) = consQuiet (alone-lessen (r .signs) u i a) (quiet-lessen u i q)
 
-  alone-raised : (x : List ℕ) (u : ℕ) (cs : List (List ℕ)) {rs : List Row} → Alone ds s x rs → Alone ds s x (raised u cs rs)
+  pub alone-raised : (x : List ℕ) (u : ℕ) (cs : List (List ℕ)) {rs : List Row} → Alone ds s x rs → Alone ds s x (raised u cs rs)
   unfolding raised
   alone-raised x u cs nilAlone = nilAlone
   alone-raised x u cs (consAlone e a) = consAlone e (alone-raised x u cs a)
@@ -97,14 +101,14 @@ module _ (ds : List ℕ) (s : ℕ) where
       go true e = absurd (n (candidate-goes ds s x c e .secondIn))
       go false e = refl
 
-  alone-fresh : (x : List ℕ) (u : ℕ) {cs : List (List ℕ)} (rs : List Row) → Each (λ c. bucket c ≡ s → ⊥) cs → Alone ds s x (fresh u cs rs)
+  pub alone-fresh : (x : List ℕ) (u : ℕ) {cs : List (List ℕ)} (rs : List Row) → Each (λ c. candidate ds s x c ≡ false) cs → Alone ds s x (fresh u cs rs)
   unfolding fresh
   alone-fresh x u rs nilEach = nilAlone
   alone-fresh x u rs (consEach {c = c} {cs = cs} n ns) = go (hasRow c rs) (alone-fresh x u rs ns)
     where
       go : (b : Bool) → Alone ds s x (fresh u cs rs) → Alone ds s x (cond b (fresh u cs rs) (rowOf c u ∷ fresh u cs rs))
       go true a = a
-      go false a = consAlone (other-bucket x c n) a
+      go false a = consAlone n a
 
   quiet-fresh : (u : ℕ) {cs : List (List ℕ)} (rs : List Row) → Each (λ c. bucket c ≡ s → ⊥) cs → Quiet ds s (fresh u cs rs)
   unfolding fresh
@@ -113,9 +117,9 @@ module _ (ds : List ℕ) (s : ℕ) where
     where
       go : (b : Bool) → Quiet ds s (fresh u cs rs) → Quiet ds s (cond b (fresh u cs rs) (rowOf c u ∷ fresh u cs rs))
       go true q = q
-      go false q = consQuiet (alone-fresh c u rs ns) q
+      go false q = consQuiet (alone-fresh c u rs (each-weaken (other-bucket c) ns)) q
 
-  alone-append : (x : List ℕ) {rs ts : List Row} → Alone ds s x rs → Alone ds s x ts → Alone ds s x (rs ++ ts)
+  pub alone-append : (x : List ℕ) {rs ts : List Row} → Alone ds s x rs → Alone ds s x ts → Alone ds s x (rs ++ ts)
   alone-append x nilAlone b = b
   alone-append x (consAlone e a) b = consAlone e (alone-append x a b)
 
@@ -170,10 +174,6 @@ conclusions-bucket s ds x y h k =
 
 -- ---- over a step
 
-each-weaken : {P Q : List ℕ → Type 0} {cs : List (List ℕ)} → ((c : List ℕ) → P c → Q c) → Each P cs → Each Q cs
-each-weaken f nilEach = nilEach
-each-weaken f (consEach {c = c} h t) = consEach (f c h) (each-weaken f t)
-
 pub settled-kept : {ds : List ℕ} {rs : List Row} {pr : Pair} → ValidRows ds rs → Candidate ds rs pr → (t : ℕ) → t < pr .variable
     → pairIn ds t 0 rs ≡ none → pairIn ds t 0 (resolve ds pr rs) ≡ none
 unfolding conclusionsOf
@@ -190,7 +190,7 @@ settled-kept {ds} {rs} {pr} v c t h e = pairIn-is-none ds t 0 (resolve ds pr rs)
     after = quiet-append ds t
         (quiet-lessen ds t u (pr .first) (quiet-lessen ds t u (pr .second) (quiet-raised ds t u (keptOf ds pr rs) (quiet ds t rs (pairIn-none ds t 0 rs e)))))
         (quiet-fresh ds t u rs others)
-        (λ x. alone-fresh ds t x u rs others)
+        (λ x. alone-fresh ds t x u rs (each-weaken (other-bucket ds t x) others))
 
 -- ---- from the settled variables to the next pair
 

@@ -16,11 +16,11 @@ use Rattle.resolution.proofs.run_valid.Statement.{statement}
 use Rattle.resolution.proofs.run_valid.Tie as tie
 
 abbrev Inv-loop : tie.InvT-loop
-Inv-loop t₀ most slice₀ n fulls base count₀ bucket₀ skip₀ clear₀ made₀ t slice count bucket skip clear made =
-    Going t₀ most slice₀ t slice count bucket skip clear made × (base ≡ variablesOf t₀ + 2) × (n ≡ variablesOf t₀) × (fulls ≡ fullClause (domains t₀))
+Inv-loop t₀ most slice₀ n fulls base count₀ bucket₀ skip₀ from₀ made₀ t slice count bucket skip from made =
+    Going t₀ most slice₀ t slice count bucket skip from made × (base ≡ variablesOf t₀ + 2) × (n ≡ variablesOf t₀) × (fulls ≡ fullClause (domains t₀))
 
 abbrev μ-loop : tie.MeasureT-loop
-μ-loop t₀ most slice₀ n fulls base count₀ bucket₀ skip₀ clear₀ made₀ t slice count bucket skip clear made = most - made
+μ-loop t₀ most slice₀ n fulls base count₀ bucket₀ skip₀ from₀ made₀ t slice count bucket skip from made = most - made
 
 -- the pair that the hunt found is the next one
 next : (n : tie.After-found Inv-loop μ-loop)
@@ -90,9 +90,17 @@ returns-2 c =
     let n = c .before .before .before .before in
     gives-paused (n .before .before .before .before .loop .inv .0) _ (next n) (c .before .before .if1 .taken) _ (c .ended2 .ensures)
 
+resume-requires : tie.Need-resume-requires Inv-loop μ-loop
+resume-requires c κs =
+    let n = c .before .before .before in
+    let i = n .before .before .before .before .loop .inv in
+    let asks = ended-asks (i .0) (i .1) (i .3) in
+    let b = bounds n in
+    (asks .0, asks .1, omega (arith, b .ordered, b .second), b .second)
+
 advance-requires : tie.Need-advance-requires Inv-loop μ-loop
 advance-requires c κs =
-    let n = c .before .before .before in
+    let n = c .before .before .before .before .before in
     let i = n .before .before .before .before .loop .inv in
     (i .0 .valid, shaped (i .0) (i .1) (i .3) (i .2), permitted _ (i .0 .valid) _ (next n))
 
@@ -107,56 +115,58 @@ refusal-in-requires c κs = search needs
 
 -- a refusal leaves the table as it was
 unmoved : (c : tie.After-enum-told2 Inv-loop μ-loop)
-    → c .before .before .before .before .advance .last .0 ≡ c .before .before .before .before .before .before .before .before .before .before .before .before .loop .t
+    → c .before .before .before .before .advance .last .0 ≡ c .before .before .before .before .before .before .before .before .before .before .before .before .before .before .loop .t
 unmoved c =
     let a = c .before .before .before .before in
     advance-refused _ _ _ _ (a .advance .ensures .0) (a .advance .ensures .1) _ (c .enum-told2 .given .1) .1
 
 ended-requires-3 : tie.Need-ended-requires-3 Inv-loop μ-loop
 ended-requires-3 c κs =
-    let i = c .before .before .before .before .before .before .before .before .before .before .before .before .before .before .loop .inv in
+    let i = c .before .before .before .before .before .before .before .before .before .before .before .before .before .before .before .before .loop .inv in
     refused-asks (i .0) (i .1) (i .3) (unmoved (c .before .before))
 
 same-length-5 : tie.Need-same-length-5 Inv-loop μ-loop
 same-length-5 c =
     ap length (unmoved (c .before .before .before))
-    ∙ c .before .before .before .before .before .before .before .before .before .before .before .before .before .before .before .loop .inv .0 .long
+    ∙ c .before .before .before .before .before .before .before .before .before .before .before .before .before .before .before .before .before .loop .inv .0 .long
 
 same-length-6 : tie.Need-same-length-6 Inv-loop μ-loop
-same-length-6 c = c .before .before .before .before .before .before .before .before .before .before .before .before .before .before .before .loop .inv .0 .asLong
+same-length-6 c = c .before .before .before .before .before .before .before .before .before .before .before .before .before .before .before .before .before .loop .inv .0 .asLong
 
 returns-3 : tie.Need-returns-3 Inv-loop μ-loop
 returns-3 c =
     let told = c .before .before .before in
     let a = told .before .before .before .before in
-    let n = a .before .before .before .before in
-    gives-refused (n .before .before .before .before .loop .inv .0) _ (next n) (a .before .before .if1 .left) _ _
+    let n = a .before .before .before .before .before .before in
+    gives-refused (n .before .before .before .before .loop .inv .0) _ (next n) (a .before .before .before .before .if1 .left) _ _
     (advance-refused _ _ _ _ (a .advance .ensures .0) (a .advance .ensures .1) _ (told .enum-told2 .given .1)) _ _
     (c .before .refusal-in .ensures _ (told .enum-told2 .given .1)) (c .ended3 .ensures)
 
 cast-step : tie.Need-cast-step Inv-loop μ-loop
 cast-step c =
-    let b = bounds (c .before .before .before .before .before .before .before .before .before) in
+    let b = bounds (c .before .before .before .before .before .before .before .before .before .before .before) in
     omega (arith, b .ordered, b .second, b .most)
 
 cast-step-2 : tie.Need-cast-step-2 Inv-loop μ-loop
-cast-step-2 c = let b = bounds (c .before .before .before .before .before .before .before .before .before) in omega (arith, b .second, b .most)
+cast-step-2 c = let b = bounds (c .before .before .before .before .before .before .before .before .before .before .before) in omega (arith, b .second, b .most)
 
 step-requires : tie.Need-step-requires Inv-loop μ-loop
 step-requires c κs =
-    let b = bounds (c .before .before .before .before .before .before .before .before .before) in
+    let b = bounds (c .before .before .before .before .before .before .before .before .before .before .before) in
     (omega (arith, b .known), omega (arith, b .ordered, b .second, b .most), omega (arith, b .second, b .most))
 
 -- a word that is made has a place
 inside : (c : tie.After-step Inv-loop μ-loop)
-    → c .before .before .before .before .before .before .before .before .before .before .before .before .before .before .loop .made < length (c .before .before .before .before .before .before .before .before .before .before .before .before .before .before .loop .slice)
+    → c .before .before .before .before .before .before .before .before .before .before .before .before .before .before .before .before .loop .made < length (c .before .before .before .before .before .before .before .before .before .before .before .before .before .before .before .before .loop .slice)
 inside c =
-    let e = c .before .before .before .before .before .before .before .before in
+    let e = c .before .before .before .before .before .before .before .before .before .before in
     let g = e .before .before .before .before .before .before .loop .inv .0 in
     omega (arith, g .within, g .room, g .asLong, e .if1 .left)
 
 mul-slice : tie.Need-mul-slice Inv-loop μ-loop
-mul-slice c = omega (arith, inside c)
+mul-slice c =
+    let l = c .before .before .before .before .before .before .before .before .before .before .before .before .before .before .before .before in
+    omega (arith, inside c, l .loop .inv .0 .asLong, l .before .before .before .before .good)
 
 slice-write-slice : tie.Need-slice-write-slice Inv-loop μ-loop
 slice-write-slice c = inside c
@@ -166,16 +176,17 @@ add-made c = omega (arith, inside c)
 
 loop-less : tie.Need-loop-less Inv-loop μ-loop
 loop-less c =
-    let e = c .before .before .before .before .before .before .before .before in
+    let e = c .before .before .before .before .before .before .before .before .before .before in
     omega (arith, e .before .before .before .before .before .before .loop .inv .0 .within, e .if1 .left)
 
 loop-again : tie.Need-loop-again Inv-loop μ-loop
 loop-again c =
     let a = c .before .before .before .before .before .before in
-    let n = a .before .before .before .before in
+    let n = a .before .before .before .before .before .before in
     let i = n .before .before .before .before .loop .inv in (
-      going-on (i .0) _ (next n) (a .before .before .if1 .left) _ _ _
-          (advance-made _ _ _ _ (a .advance .ensures .0) (a .advance .ensures .1) _ _ (c .before .before .advanced .given .1)) _ (c .step .ensures),
+      going-on (i .0) _ (next n) (a .before .before .before .before .if1 .left) _ _ _
+          (advance-made _ _ _ _ (a .advance .ensures .0) (a .advance .ensures .1) _ _ (c .before .before .advanced .given .1)) _ (c .step .ensures)
+          _ (a .before .before .resume .ensures),
       i .1,
       i .2,
       i .3,
@@ -200,6 +211,7 @@ run-valid-spec =
     same-length-3
     same-length-4
     returns-2
+    resume-requires
     advance-requires
     enum-known-advanced
     enum-told-2
