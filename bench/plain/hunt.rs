@@ -1,4 +1,4 @@
-//! The hunt for the next pair, bucket by bucket, with a memory of the pairs that were tried before.
+//! The hunt for the next pair, bucket by bucket, going on where the last step was.
 
 use crate::clause::{avoids, below, clash_beside, crossing, Place, Signs};
 use crate::domains::Domains;
@@ -12,13 +12,12 @@ pub struct Pair {
     pub second: usize,
 }
 
-/// Where a hunt starts. No bucket below `variable` has a pair; in its own bucket no row below `first` goes with a row
-/// below `tried`, and the row `first` goes with no row below `second`.
+/// Where a hunt starts. No bucket below `variable` has a pair; in its own bucket no row below `first` goes with any
+/// row, and the row `first` goes with no row below `second`.
 pub struct Start {
     variable: usize,
     first: usize,
     second: usize,
-    tried: usize,
 }
 
 impl Start {
@@ -28,14 +27,14 @@ impl Start {
     }
 
     fn of_bucket(variable: usize) -> Start {
-        Start { variable, first: 0, second: 1, tried: 0 }
+        Start { variable, first: 0, second: 1 }
     }
 
-    /// After a step on a pair that left so many of the old rows. Both rows have no variable below this one, so neither
-    /// have the conclusions: the lower buckets stay as they were.
-    pub fn after(pair: Pair, first_removed: bool, rows_left: usize) -> Start {
+    /// After a step on a pair. Both rows have no variable below this one, so neither have the conclusions: the lower
+    /// buckets stay as they were. A row that went with neither of the two goes with none of the conclusions.
+    pub fn after(pair: Pair, first_removed: bool) -> Start {
         let second = if first_removed { pair.first + 1 } else { pair.second };
-        Start { variable: pair.variable, first: pair.first, second, tried: rows_left }
+        Start { variable: pair.variable, first: pair.first, second }
     }
 }
 
@@ -67,27 +66,15 @@ impl<'a> Bucket<'a> {
 
     /// The lowest first row with the lowest second row.
     fn pair(&self, rows: &[Row], start: &Start) -> Option<Pair> {
-        self.pair_of_tried(rows, start).or_else(|| self.pair_from(rows, start))
-    }
-
-    /// Among the first rows that have been tried, only rows that came later can be the second.
-    fn pair_of_tried(&self, rows: &[Row], start: &Start) -> Option<Pair> {
-        if !rows[start.tried..].iter().any(|row| self.has(row)) {
-            return None;
-        }
-        self.members(rows, 0, start.first).find_map(|first| self.pair_with(rows, first, start.tried))
-    }
-
-    fn pair_from(&self, rows: &[Row], start: &Start) -> Option<Pair> {
-        self.members(rows, start.first, rows.len()).find_map(|first| {
+        self.members(rows, start.first).find_map(|first| {
             let from = if first == start.first { start.second } else { first + 1 };
             self.pair_with(rows, first, from)
         })
     }
 
-    /// The numbers of the bucket's rows in a range.
-    fn members<'b>(&'b self, rows: &'b [Row], from: usize, to: usize) -> impl Iterator<Item = usize> + 'b {
-        let members = rows[from..to].iter().enumerate().filter(move |(_, row)| self.has(row));
+    /// The numbers of the bucket's rows from a given one on.
+    fn members<'b>(&'b self, rows: &'b [Row], from: usize) -> impl Iterator<Item = usize> + 'b {
+        let members = rows[from..].iter().enumerate().filter(move |(_, row)| self.has(row));
         members.map(move |(at, _)| from + at)
     }
 

@@ -23,7 +23,7 @@ pub fn resolve(table: &mut Table, pair: Pair) -> Result<Start, Refusal> {
     lessen(table, pair.first, moved);
     looked.append(table, &made, moved);
     table.settle(used);
-    Ok(Start::after(pair, first.weight() == moved, used - removed))
+    Ok(Start::after(pair, first.weight() == moved))
 }
 
 /// Takes weight from a row and removes it at 0.

@@ -1,7 +1,8 @@
 """Answers in slices of every length: the fields are written as far as the slice goes, and what lies behind is kept."""
 
 import driver
-from chosen import GROWING, SMALL_FIELDS
+from chosen import GROWING
+from lists import SMALL_FIELDS
 from reference import fields, words
 from small_fields import through_all_calls
 

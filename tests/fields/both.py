@@ -51,15 +51,18 @@ def first_difference(got, expected):
     return f"at {at} library {got[at]:x}, reference {expected[at]:x}"
 
 
-def told(name, arguments, got, expected):
-    """The text of a difference."""
-    lines = [f"{name} differs"]
-    lines += [f"  given {at}: {shown(value)}" for at, (_, value) in enumerate(arguments)]
-    lines += [f"  library:   number {got.number}, answer {got.fields}",
-              f"  reference: number {expected.number}, answer {expected.fields}"]
-    lines += [f"  slice {at}: {first_difference(one, other)}"
-              for at, (one, other) in enumerate(zip(got.slices, expected.slices)) if one != other]
-    return "\n".join(lines)
+def told(name, arguments, fault):
+    """The text of a difference: the call, what it was given, and the lines of the fault."""
+    given = [f"given {at}: {shown(value)}" for at, (_, value) in enumerate(arguments)]
+    return "\n  ".join([f"{name} differs"] + given + fault)
+
+
+def fault_of(got, expected):
+    """Both answers, and each slice that differs."""
+    return ([f"library:   number {got.number}, answer {got.fields}",
+             f"reference: number {expected.number}, answer {expected.fields}"]
+            + [f"slice {at}: {first_difference(one, other)}"
+               for at, (one, other) in enumerate(zip(got.slices, expected.slices)) if one != other])
 
 
 def row_total(table):
@@ -98,11 +101,14 @@ class Both:
         expected = expected._replace(fields=fields)
         lent = [passed(kind, value) for kind, value in arguments]
         number = call("gotalhim_" + name, lent + [answer] * (name != "plan"))
-        got = Answer(number, answer.content(), [slice_.content() for slice_ in lent if isinstance(slice_, Slice)])
         self.cases += 1
         self.numbers.add(expected.number)
+        try:
+            got = Answer(number, answer.content(), [each.content() for each in lent if isinstance(each, Slice)])
+        except AssertionError as overrun:
+            raise Different(told(name, arguments, [str(overrun)])) from overrun
         if got != expected:
-            raise Different(told(name, arguments, got, expected))
+            raise Different(told(name, arguments, fault_of(got, expected)))
 
     def make(self, sheet, target):
         made = reference.make_instance(sheet, target)
@@ -115,10 +121,10 @@ class Both:
         return number, paid
 
     def readout(self, sheet, plan, variable, easting, northing):
-        told_metres = reference.readout_call(sheet, plan, variable, easting, northing)
+        answered = reference.readout_call(sheet, plan, variable, easting, northing)
         self.agree("readout", [(WORD, sheet), (BYTE, plan), (WORD, variable), (WORD, easting), (WORD, northing)],
-                   Answer(told_metres.number, [told_metres.metres], [sheet, plan]))
-        return told_metres
+                   Answer(answered.number, [answered.metres], [sheet, plan]))
+        return answered
 
     def encode(self, instance, table):
         encoded = reference.encode(instance, table)

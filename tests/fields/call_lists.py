@@ -5,7 +5,8 @@ import random
 import driver
 import reference
 from both import row_total
-from chosen import GROWING, SMALL_FIELDS, long_chain, random_field
+from chosen import GROWING, long_chain, random_field
+from lists import SMALL_FIELDS
 from records import recorded
 from reference import fields, words
 from reference.answers import GOOD

@@ -1,16 +1,6 @@
-"""Fields that several subjects start from, each as sizes and entries."""
+"""Fields that several subjects start from, each as sizes and entries; those of document 01 stand in tests/library."""
 
 import random
-
-# P1 to P6 of document 01.
-SMALL_FIELDS = [
-    ([2], [([(0, 0)], 3), ([(0, 1)], 1)]),
-    ([3], [([(0, 0)], 2), ([(0, 1)], 1), ([(0, 2)], 4)]),
-    ([2, 2], [([(0, 0), (1, 0)], 2), ([(0, 1), (1, 0)], 1)]),
-    ([2, 2], [([(0, 0)], 1), ([(0, 1), (1, 0)], 1)]),
-    ([1], [([(0, 0)], 7)]),
-    ([1], [([], 0)]),
-]
 
 # Four rows, four after the first step, five after the second.
 GROWING = ([2, 2, 2], [([(0, 0)], 2), ([(0, 1)], 1), ([(1, 0)], 2), ([(1, 1), (2, 0)], 1)])

@@ -3,7 +3,8 @@
 import random
 
 import reference
-from chosen import GROWING, SMALL_FIELDS, chain, long_chain, scattered
+from chosen import GROWING, chain, long_chain, scattered
+from lists import SMALL_FIELDS
 from records import ROWS, stepped
 from reference import fields, words
 from reference.limits import MAX_WEIGHT, ROW_WORDS

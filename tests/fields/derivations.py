@@ -3,7 +3,8 @@
 import random
 from itertools import chain as chain_of
 
-from chosen import GROWING, SMALL_FIELDS, chain, long_chain, scattered
+from chosen import GROWING, chain, long_chain, scattered
+from lists import SMALL_FIELDS
 from records import recorded
 from reference import fields, words
 from reference.resolution import permitted

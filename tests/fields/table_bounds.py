@@ -1,13 +1,15 @@
-"""The bounds of a table through every call that takes one: its length, the words past its rows, 4,096 rows."""
+"""The bounds of a table through every call that takes one: length, words past the rows, 4,096 rows, weights."""
 
 import random
 
 import driver
 import reference
-from chosen import GROWING, SMALL_FIELDS, chain, long_chain
+from chosen import GROWING, chain, long_chain
+from lists import SMALL_FIELDS
 from records import recorded
 from reference import fields, words
 from reference.answers import GOOD
+from reference.limits import MAX_WEIGHT
 from reference.tables import Row, read_table, table_words
 
 MOST_ROWS = 4_096
@@ -66,6 +68,17 @@ def row_bounds(both):
                 both.plan(table, [9] * 3)
 
 
+def weight_bounds(both):
+    """A step whose conclusion meets a row of the greatest weight, or of one less, with and without room for the others:
+    11 comes before 12, whichever conclusion it is."""
+    premises = [Row((3, 1, 0), 1), Row((6, 0, 1), 2)]
+    for conclusion in ((2, 1, 1), (7, 1, 1), (3, 1, 6), (6, 6, 1)):
+        for weight in (MAX_WEIGHT - 1, MAX_WEIGHT):
+            rows = premises + [Row(conclusion, weight)]
+            for more in range(5):
+                both.on_table(table_words([4, 3, 3], rows, fields.table_length(3, len(rows) + more)))
+
+
 def words_past_all_rows(both):
     """A slice may be longer than 4,096 rows take; it is held to zero up to its very end."""
     length = fields.table_length(1, MOST_ROWS, 40)
@@ -91,5 +104,6 @@ def compare(both):
     length_bounds(both)
     words_past_the_rows(both)
     row_bounds(both)
+    weight_bounds(both)
     words_past_all_rows(both)
     most_encoded_rows(both)

@@ -24,7 +24,7 @@ use Rattle.checker.specs.Replay.{Replayed, replay}
 use Rattle.checker.specs.Calls.{claimHolds, judged, checkCall}
 use Rattle.checker.proofs.Instances.{accepted-few}
 use Rattle.checker.proofs.Kept.{Coded, coded, coded-table, encode-refused, encoded-keeps, keeps-holdable}
-use Rattle.checker.proofs.Claims.{replayed, replayed-left, check-judged}
+use Rattle.checker.proofs.Claims.{replayed, replayed-ended, check-judged}
 use Rattle.checker.proofs.Holding.{Held, held}
 use Rattle.checker.proofs.Going.{Replays}
 
@@ -88,7 +88,7 @@ module _ (inst derivation plan : List ℕ) (claimed : ℕ) (t : List ℕ) where
 
             second : Held t₂ (length t) (sizesOf inst) (whole .rows)
             second =
-                let l = replayed-left inst t derivation found in
+                let l = replayed-ended inst t derivation found .left in
                 held t₂ (length t) (sizesOf inst) (whole .rows)
                 (keeps-holdable inst (found .accepted) (whole .rows) (l .keeps) (length t) (found .room) (l .fits)) table-is
 

@@ -21,7 +21,7 @@ use Rattle.checker.specs.Replay.{Replayed, replay}
 use Rattle.checker.specs.Calls.{claimHolds, judged, checkCall}
 use Rattle.checker.specs.Theorems.{Accepted, AcceptedIsLeast, LeftConserves}
 use Rattle.checker.proofs.Kept.{Coded, coded, encoded-keeps, keeps-cost, keeps-below, keeps-holdable}
-use Rattle.checker.proofs.Replaying.{Left, replay-left}
+use Rattle.checker.proofs.Replaying.{Left, Ended, replay-ended}
 
 -- the replay that the check makes
 abbrev pub replayed : List ℕ → List ℕ → List ℕ → Replayed
@@ -53,10 +53,10 @@ claim inst plan claimed rs e =
       costs = eqb-true claimed (cost (entriesOf inst) plan) (and-right (a && b) c e);
     }
 
-pub replayed-left : (inst t derivation : List ℕ) → Coded inst t
-    → Left inst (capacity (length t) (length (sizesOf inst))) (replayed inst t derivation .rows)
-replayed-left inst t derivation c =
-    replay-left inst (c .accepted) (capacity (length t) (length (sizesOf inst))) derivation (encodedRows inst) 0
+pub replayed-ended : (inst t derivation : List ℕ) → Coded inst t
+    → Ended inst (capacity (length t) (length (sizesOf inst))) (replayed inst t derivation)
+replayed-ended inst t derivation c =
+    replay-ended inst (c .accepted) (capacity (length t) (length (sizesOf inst))) derivation (encodedRows inst) 0
     (record { keeps = encoded-keeps inst (c .accepted); fits = c .fits })
 
 claim-accepted : (inst plan : List ℕ) (claimed cap : ℕ) (rs : List Row) → instanceFault inst ≡ 0 → Left inst cap rs
@@ -86,7 +86,7 @@ acceptedIsLeast inst derivation plan claimed t e = coding (eqb (encodeCall inst 
         → cond a (cond b 0 7) (done .number) ≡ 0 → Accepted inst plan claimed
     judging c true true f h n =
         claim-accepted inst plan claimed (capacity (length t) (length (sizesOf inst))) (done .rows) (c .accepted)
-        (replayed-left inst t derivation c) (claim inst plan claimed (done .rows) f)
+        (replayed-ended inst t derivation c .left) (claim inst plan claimed (done .rows) f)
     judging c true false f h n = absurd (omega arith)
     judging c false b f h n = absurd (eqb-false (done .number) 0 h n)
 
@@ -104,7 +104,7 @@ unfolding judged
 leftConserves inst derivation plan claimed t p e r =
     let c = coded inst t e in
     let rs = replayed inst t derivation .rows in
-    let l = replayed-left inst t derivation c in
+    let l = replayed-ended inst t derivation c .left in
     let h = keeps-holdable inst (c .accepted) rs (l .keeps) (length t) (c .room) (l .fits) in
     let left : checkCall inst derivation plan claimed t .table ≡ tableWords (length t) (sizesOf inst) rs
     = ap (λ k. k .table) (check-judged inst derivation plan claimed t e) in

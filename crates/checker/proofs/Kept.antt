@@ -37,7 +37,7 @@ pub record Coded (inst t : List ℕ) : Type 0 where
   pub fits : length (encodedRows inst) ≤ capacity (length t) (length (sizesOf inst))
 
 -- the tests of the call, by their results
-encodes : (inst t : List ℕ) → Bool → Bool → Bool → Returned
+unfoldable pub encodes : (inst t : List ℕ) → Bool → Bool → Bool → Returned
 encodes inst t a b c =
     cond a
     (cond b
@@ -48,7 +48,7 @@ encodes inst t a b c =
     (record { answer = refused (instanceFault inst); table = t })
 
 module _ (inst t : List ℕ) where
-  encode-tests : encodeCall inst t
+  pub encode-tests : encodeCall inst t
       ≡ encodes inst t (eqb (instanceFault inst) 0) (ltb (length t) (length (sizesOf inst) + 2))
       (ltb (capacity (length t) (length (sizesOf inst))) (length (encodedRows inst)))
   unfolding encodeCall encodes

@@ -3,6 +3,7 @@ pub mod Instances
 pub mod Kept
 pub mod Replaying
 pub mod Claims
+pub mod Numbers
 pub mod Naming
 pub mod Holding
 pub mod Going

@@ -1,4 +1,5 @@
--- A replay goes on only by permitted steps whose rows fit, so whatever step words it gets, the rows that it leaves keep the instance and fit.
+-- A replay goes on only by permitted steps whose rows fit, so whatever step words it gets, the rows that it leaves keep the instance and fit;
+-- and since no weight of such rows is too great, it is never stopped by 11.
 use Prim.Native.Nat.{ℕ, suc, _≤_}
 use native.Mathlib.Omega.{arith}
 use mathlib.Core.Path.{_≡_, refl, ap, subst}
@@ -16,10 +17,9 @@ use Rattle.words.specs.declared.Word.{Word}
 use Rattle.words.specs.declared.Word.the-variants.{Head, Size, Binding, Cost, Signs, Weight, Step, Easting, Northing, Count, Unknown}
 use Rattle.words.specs.Meaning.{wordOf}
 use Rattle.input.specs.Instance.{instanceFault, sizesOf, padded}
-use Rattle.table.specs.Layout.{tooHeavy}
 use Rattle.stepping.specs.Step.{Stepping, refusing, stepping, allowed}
-use Rattle.checker.specs.Replay.{permittedPair, namedPair, replayOn, replayWord, replayNext, replay}
-use Rattle.checker.proofs.Kept.{Keeps, step-keeps}
+use Rattle.checker.specs.Replay.{permittedPair, namedPair, replayOn, replayWord, Replayed, replayNext, replay}
+use Rattle.checker.proofs.Kept.{Keeps, step-keeps, keeps-light}
 
 -- ---- the pair that a word names
 
@@ -91,50 +91,62 @@ module _ (ds : List ℕ) (rs : List Row) where
 
 -- ---- what a word comes to
 
-data WordView (ds : List ℕ) (cap : ℕ) (rs : List Row) : Stepping → Type 0 where
-  refused : {k : ℕ} → WordView ds cap rs (refusing k)
-  made : {pr : Pair} → Permitted ds rs pr → length (resolve ds pr rs) ≤ cap → WordView ds cap rs (stepping pr (resolve ds pr rs))
-
-module _ (ds : List ℕ) (cap : ℕ) (rs : List Row) where
-  allowed-view : (pr : Pair) → Permitted ds rs pr → WordView ds cap rs (allowed cap pr (resolve ds pr rs))
-  unfolding allowed
-  allowed-view pr m = go (tooHeavy rs′) (ltb cap (length rs′)) refl
-    where
-      rs′ : List Row
-      rs′ = resolve ds pr rs
-
-      go : (a b : Bool) → ltb cap (length rs′) ≡ b → WordView ds cap rs (cond a (refusing 11) (cond b (refusing 12) (stepping pr rs′)))
-      go true b e = refused
-      go false true e = refused
-      go false false e = made m (ltb-false cap (length rs′) e)
-
-  word-view : (w : ℕ) → WordView ds cap rs (replayWord ds cap rs w)
-  unfolding replayWord replayOn
-  word-view w = go _ (named-view ds rs (wordOf w))
-    where
-      go : (o : Option Pair) → PairView ds rs o → WordView ds cap rs (replayOn ds cap rs o)
-      go none noPair = refused
-      go (some pr) (onPair m) = allowed-view pr m
-
--- ---- the whole replay
-
 pub record Left (inst : List ℕ) (cap : ℕ) (rs : List Row) : Type 0 where
   pub keeps : Keeps inst rs
   pub fits : length rs ≤ cap
 
+-- what a replay comes to: rows that keep the instance and fit, and a number other than 11
+pub record Ended (inst : List ℕ) (cap : ℕ) (done : Replayed) : Type 0 where
+  pub left : Left inst cap (done .rows)
+  pub never : done .number ≡ 11 → ⊥
+
+data WordView (ds : List ℕ) (cap : ℕ) (rs : List Row) : Stepping → Type 0 where
+  refused : {k : ℕ} → (k ≡ 11 → ⊥) → WordView ds cap rs (refusing k)
+  made : {pr : Pair} → Permitted ds rs pr → length (resolve ds pr rs) ≤ cap → WordView ds cap rs (stepping pr (resolve ds pr rs))
+
 module _ (inst : List ℕ) (accepted : instanceFault inst ≡ 0) (cap : ℕ) where
-  pub replay-left : (ws : List ℕ) (rs : List Row) (k : ℕ) → Left inst cap rs
-      → Left inst cap (replay (padded (sizesOf inst)) cap rs k ws .rows)
+  module _ {rs : List Row} (k : Keeps inst rs) where
+    -- 11 never: only the room is asked for
+    pub allowed-room : (pr : Pair) → Permitted (padded (sizesOf inst)) rs pr
+        → allowed cap pr (resolve (padded (sizesOf inst)) pr rs)
+        ≡ cond (ltb cap (length (resolve (padded (sizesOf inst)) pr rs))) (refusing 12) (stepping pr (resolve (padded (sizesOf inst)) pr rs))
+    unfolding allowed
+    allowed-room pr m =
+        let rs′ = resolve (padded (sizesOf inst)) pr rs in
+        rw (keeps-light inst accepted rs′ (step-keeps inst accepted rs k pr m))
+
+    allowed-view : (pr : Pair) → Permitted (padded (sizesOf inst)) rs pr
+        → WordView (padded (sizesOf inst)) cap rs (allowed cap pr (resolve (padded (sizesOf inst)) pr rs))
+    allowed-view pr m = rw (allowed-room pr m) (go (ltb cap (length rs′)) refl)
+      where
+        rs′ : List Row
+        rs′ = resolve (padded (sizesOf inst)) pr rs
+
+        go : (b : Bool) → ltb cap (length rs′) ≡ b → WordView (padded (sizesOf inst)) cap rs (cond b (refusing 12) (stepping pr rs′))
+        go true e = refused (λ (z : _≡_ {A = ℕ} 12 11). omega arith)
+        go false e = made m (ltb-false cap (length rs′) e)
+
+    word-view : (w : ℕ) → WordView (padded (sizesOf inst)) cap rs (replayWord (padded (sizesOf inst)) cap rs w)
+    unfolding replayWord replayOn
+    word-view w = go _ (named-view (padded (sizesOf inst)) rs (wordOf w))
+      where
+        go : (o : Option Pair) → PairView (padded (sizesOf inst)) rs o
+            → WordView (padded (sizesOf inst)) cap rs (replayOn (padded (sizesOf inst)) cap rs o)
+        go none noPair = refused (λ (z : _≡_ {A = ℕ} 6 11). omega arith)
+        go (some pr) (onPair m) = allowed-view pr m
+
+  -- ---- the whole replay
+
+  pub replay-ended : (ws : List ℕ) (rs : List Row) (k : ℕ) → Left inst cap rs → Ended inst cap (replay (padded (sizesOf inst)) cap rs k ws)
   unfolding replay replayNext
-  replay-left [] rs k l = l
-  replay-left (w ∷ ws) rs k l =
-      go _ (word-view (padded (sizesOf inst)) cap rs w) (λ rs′ l′. replay-left ws rs′ (suc k) l′)
+  replay-ended [] rs k l = record { left = l; never = λ (z : _≡_ {A = ℕ} 0 11). omega arith }
+  replay-ended (w ∷ ws) rs k l = go _ (word-view (l .keeps) w) (λ rs′ l′. replay-ended ws rs′ (suc k) l′)
     where
       go : (s : Stepping) → WordView (padded (sizesOf inst)) cap rs s
-          → ((rs′ : List Row) → Left inst cap rs′ → Left inst cap (replay (padded (sizesOf inst)) cap rs′ (suc k) ws .rows))
-          → Left inst cap
+          → ((rs′ : List Row) → Left inst cap rs′ → Ended inst cap (replay (padded (sizesOf inst)) cap rs′ (suc k) ws))
+          → Ended inst cap
           (replayNext (record { number = 6; steps = k; rows = rs }) (λ number. record { number = number; steps = k; rows = rs })
-          (λ rs′. replay (padded (sizesOf inst)) cap rs′ (suc k) ws) s .rows)
-      go (refusing n) refused ih = l
+          (λ rs′. replay (padded (sizesOf inst)) cap rs′ (suc k) ws) s)
+      go (refusing n) (refused f) ih = record { left = l; never = f }
       go (stepping pr rs′) (made m f) ih =
           ih rs′ (record { keeps = step-keeps inst accepted rs (l .keeps) pr m; fits = f })

@@ -26,3 +26,8 @@ abbrev pub LeftConserves : Type 0
 LeftConserves = (inst derivation plan : List ℕ) (claimed : ℕ) (t p : List ℕ) → encodeCall inst t .answer .number ≡ 0
     → InRange (sizesOf inst) p
     → falsified (paddedValues p) (tableRows (checkCall inst derivation plan claimed t .table)) ≡ cost (entriesOf inst) p
+
+-- 11 never: no weight in a table from an accepted instance passes the limit, whatever step words are replayed
+abbrev pub NeverTooHeavy : Type 0
+NeverTooHeavy = (inst derivation plan : List ℕ) (claimed : ℕ) (t : List ℕ)
+    → checkCall inst derivation plan claimed t .answer .number ≡ 11 → ⊥
