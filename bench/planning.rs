@@ -8,7 +8,7 @@ pub const STEP_LIMIT: usize = 16_000;
 pub trait Calls {
     fn make(sheet: &[u32], target: &mut [u32]) -> (u32, u64);
     fn encode(instance: &[u32], table: &mut [u32]) -> u32;
-    /// The answer is number, outcome (0 done, 1 paused, 2 refused), steps and bound.
+    /// The answer is number, outcome (0 done, 1 paused, 2 stopped), steps and bound.
     fn run(table: &mut [u32], limit: usize, derivation: &mut [u32]) -> (u32, [u64; 3]);
     fn plan(table: &[u32], target: &mut [u8]) -> u32;
 }

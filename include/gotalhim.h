@@ -86,9 +86,9 @@ uint32_t gotalhim_step(uint32_t *table, size_t table_length,
  * Makes steps one after the other, and writes the word of each from the front of a slice.
  * Tests: 9; then before each step, in this order: done, if no pair is left; paused, if the limit or the end of the
  * slice is reached; 11; 12.
- * Answer: the outcome (0 done, 1 paused, 2 refused), the steps made, and the bound, which is the weight of the row
- * without literals in the table that the run leaves, 0 if there is none. Done and paused are successes, with number 0.
- * Refused with 9 it returns outcome 2, and 0 for the others; a run that 11 or 12 stops returns all its fields.
+ * Answer: the outcome (0 done, 1 paused, 2 stopped by 11 or 12), the steps made, and the bound, which is the weight of
+ * the row without literals in the table that the run leaves, 0 if there is none. Done and paused are successes, with
+ * number 0. Refused with 9 all fields are 0; a run that 11 or 12 stops returns all its fields.
  * Memory: the table after the last step; the words of the steps made, the rest of the slice kept. This holds for a run
  * that 11 or 12 stops, too; refused with 9 nothing changes.
  */

@@ -93,6 +93,7 @@ fn run(line: &mut Line) -> Answer {
     let (number, outcome) = match ran.outcome {
         Outcome::Done => (0, 0),
         Outcome::Paused => (0, 1),
+        Outcome::Refused(Refusal::BadTable) => (Refusal::BadTable.number(), 0),
         Outcome::Refused(refusal) => (refusal.number(), 2),
     };
     let numbers = vec![u64::from(number), outcome, ran.steps as u64, u64::from(ran.bound)];

@@ -10,7 +10,7 @@ import driver
 import reference
 from proved import BYTE, FIELD, SIZE, WORD, Slice, call
 from reference import inputs, words
-from reference.answers import BAD_CLAIM, GOOD, Refused
+from reference.answers import BAD_CLAIM, BAD_TABLE, GOOD, Refused
 from reference.steps import DONE, PAUSED, REFUSED
 
 OUTCOMES = {DONE: 0, PAUSED: 1, REFUSED: 2}
@@ -140,7 +140,8 @@ class Both:
 
     def run(self, table, limit, derivation):
         ran = reference.run_call(table, limit, derivation)
-        fields = [OUTCOMES[ran.outcome], ran.steps, ran.bound]
+        outcome = 0 if ran.number == BAD_TABLE else OUTCOMES[ran.outcome]
+        fields = [outcome, ran.steps, ran.bound]
         self.agree("run", [(WORD, table), (SIZE, limit), (WORD, derivation)],
                    Answer(ran.number, fields, [ran.table, ran.derivation]))
         return ran

@@ -86,7 +86,7 @@ pub fn step(table: &mut [u32], answer: &mut [u64]) -> u32 {
     }
 }
 
-/// Makes steps; the answer is the outcome (0 done, 1 paused, 2 refused), the steps made and the bound.
+/// Makes steps; the answer is the outcome (0 done, 1 paused, 2 stopped), the steps made and the bound; all 0 for 9.
 pub fn run(table: &mut [u32], limit: usize, derivation: &mut [u32], answer: &mut [u64]) -> u32 {
     unsafe {
         declared::gotalhim_run(

@@ -50,6 +50,7 @@ fn ran(ran: plain::Ran) -> (u32, Vec<u64>) {
     let (number, outcome) = match ran.outcome {
         Outcome::Done => (0, 0),
         Outcome::Paused => (0, 1),
+        Outcome::Refused(Refusal::BadTable) => (Refusal::BadTable.number(), 0),
         Outcome::Refused(refusal) => (refusal.number(), 2),
     };
     (number, vec![outcome, ran.steps as u64, u64::from(ran.bound)])

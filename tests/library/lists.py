@@ -7,6 +7,7 @@ from collections import Counter
 import proved
 import reference
 from reference import fields
+from reference.answers import BAD_TABLE
 from reference.clauses import full
 from reference.limits import MAX_WEIGHT
 from reference.tables import Row, read_table, table_words
@@ -37,6 +38,7 @@ def noted(answer, values):
 
 
 def same(name, outcome, got, expected):
+    assert len(got) == len(expected), f"{name}: {len(got)} fields, reference {len(expected)}"
     for field, mine, other in zip(got._fields, got, expected):
         assert mine == other, f"{name}, {field}: {str(mine)[:400]}, reference {str(other)[:400]}"
     reached[name, outcome] += 1
@@ -59,7 +61,8 @@ def step(table, answer):
 
 def run_steps(table, limit, derivation, answer):
     expected = reference.run_call(table, limit, derivation)
-    values = [OUTCOMES[expected.outcome], expected.steps, expected.bound]
+    outcome = 0 if expected.number == BAD_TABLE else OUTCOMES[expected.outcome]
+    values = [outcome, expected.steps, expected.bound]
     same("run", expected.number or expected.outcome, proved.run_call(table, limit, derivation, answer),
          (expected.number, noted(answer, values), expected.table, expected.derivation))
     return expected.table

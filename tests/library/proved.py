@@ -81,7 +81,7 @@ class Stepped(NamedTuple):
 
 class Ran(NamedTuple):
     number: int
-    answer: list        # 0 done, 1 paused, 2 refused; the steps; the bound
+    answer: list        # 0 done, 1 paused, 2 stopped by 11 or 12; the steps; the bound; all 0 for 9
     table: list
     derivation: list
 

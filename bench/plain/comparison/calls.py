@@ -3,7 +3,7 @@
 from typing import NamedTuple
 
 import reference
-from reference.answers import BAD_CLAIM, GOOD, Refused
+from reference.answers import BAD_CLAIM, BAD_TABLE, GOOD, Refused
 from reference.inputs import cost_of, in_range, read_instance
 from reference.tables import read_table
 
@@ -45,7 +45,8 @@ def step(table):
 
 def run(table, limit, derivation):
     ran = reference.run_call(table, limit, derivation)
-    fields = [ran.number, OUTCOMES[ran.outcome], ran.steps, ran.bound]
+    outcome = 0 if ran.number == BAD_TABLE else OUTCOMES[ran.outcome]
+    fields = [ran.number, outcome, ran.steps, ran.bound]
     return call("run", sliced(table) + [limit] + sliced(derivation),
                 fields + sliced(ran.table) + sliced(ran.derivation))
 

@@ -1,9 +1,10 @@
--- The driver's loop: the words that are left do to what the slices hold what all words do to the start; and what was reached upholds demand 3.
+-- The driver's loop: the words that are left do to what the slices hold what all words do to the start. What they do is a list of calls, so
+-- demand 3 is upheld.
 use Prim.Native.Nat.{ℕ, suc, _+_, _-_, _≤_, _<_}
 use native.Mathlib.Numerals.{add-one}
 use native.Mathlib.Omega.{arith}
 use mathlib.Core.Path.{_≡_, refl, sym, ap, ap₂, _∙_}
-use mathlib.Core.List.{List, [], _∷_, _++_}
+use mathlib.Core.List.{List, [], _∷_, _++_, Option·toList}
 use mathlib.Core.Option.{Option, none, some}
 use lib.ListN.{length, getD, take, drop, take-append-drop, drop-of-length-le}
 use lib.Seq.{length-take-le, drop-cons, drop-drop}
@@ -12,12 +13,11 @@ use Rattle.input.specs.declared.Answer.{Answer}
 use Rattle.encoding.specs.Calls.{encodeCall}
 use Rattle.checker.proofs.Kept.{Coded, coded, encode-refused}
 use Rattle.calls.specs.declared.Driven.{Driven}
-use Rattle.calls.specs.Calls.{Call, afterCalls, started}
+use Rattle.calls.specs.Calls.{Call, afterCalls}
 use Rattle.calls.specs.Demand.{Upheld}
-use Rattle.calls.specs.Driver.{asked, Driving, driveCall, driveWord, driveWords, driveAll}
+use Rattle.calls.specs.Driver.{asked, driveCall, driveWord, driveWords, callsAsked, DrivesCalls, startOf, driveAll}
 use Rattle.calls.specs.Slices.{drivingIn}
-use Rattle.calls.proofs.Moving.{Reached, call-reached, reached}
-use Rattle.calls.proofs.Upholding.{upheld}
+use Rattle.calls.proofs.Upholding.{demand-rows}
 use Rattle.calls.proofs.Asking.{Made}
 
 -- ---- the loop
@@ -64,23 +64,25 @@ module _ (t₀ out₀ target₀ calls : List ℕ) where
     unfolding driveWords
     going-end h = rw (drop-of-length-le calls h) at (g .same)
 
--- ---- demand 3
+-- ---- a list of calls
 
-module _ (inst t : List ℕ) (c : Coded inst t) (out : List ℕ) where
-  asked-reached : (d : Driving) (call : Option Call) → Reached inst t (d .state) → Reached inst t (driveCall d call .state)
-  unfolding driveCall
-  asked-reached d none m = m
-  asked-reached d (some call) m = call-reached inst t c (d .state) call m
+pub drivesCalls : DrivesCalls
+unfolding driveWords driveWord driveCall callsAsked afterCalls Option·toList
+drivesCalls out d [] = refl
+drivesCalls out d (w ∷ ws) =
+    drivesCalls out (driveWord out d w) ws ∙ made (asked (drop (length (d .state .derivation)) out) (d .target) w) (callsAsked out (driveWord out d w) ws)
+  where
+    made : (call : Option Call) (calls : List Call) → afterCalls (driveCall d call .state) calls ≡ afterCalls (d .state) (Option·toList call ++ calls)
+    made none calls = refl
+    made (some call) calls = refl
 
-  words-reached : (d : Driving) (ws : List ℕ) → Reached inst t (d .state) → Reached inst t (driveWords out d ws .state)
-  unfolding driveWords driveWord
-  words-reached d [] m = m
-  words-reached d (w ∷ ws) m =
-      words-reached (driveWord out d w) ws (asked-reached d (asked (drop (length (d .state .derivation)) out) (d .target) w) m)
-
-  drive-reached : (ws target : List ℕ) → Reached inst t (driveWords out (record { state = started inst t; target = target }) ws .state)
-  unfolding afterCalls
-  drive-reached ws target = words-reached (record { state = started inst t; target = target }) ws (reached inst t c [])
+-- so what the words leave upholds demand 3
+drive-upheld : (inst t : List ℕ) → Coded inst t → (out target ws : List ℕ)
+    → let st = driveWords out (startOf inst t target) ws .state in
+    Upheld inst t (st .table) (st .derivation)
+drive-upheld inst t c out target ws =
+    let start = startOf inst t target in
+    rw (drivesCalls out start ws) (demand-rows inst t c (callsAsked out start ws))
 
 -- ---- the whole call
 
@@ -102,7 +104,7 @@ module _ (inst t calls out target : List ℕ) (a : Answer) (t₀ : List ℕ) (co
       → Going t₀ out target calls t′ out′ made target′ i → Drove inst t calls out target (record { number = 0; steps = made }) t′ out′ target′
   unfolding driveAll
   drive-made e t′ out′ made target′ i h g =
-      let start : Driving = record { state = started inst t; target = target } in
+      let start = startOf inst t target in
       let encoded : encodeCall inst t .answer .number ≡ 0 = rw (coding .0) at e in
       let c = coded inst t encoded in
       let end : driveWords out start calls ≡ drivingIn t′ out′ made target′
@@ -110,4 +112,4 @@ module _ (inst t calls out target : List ℕ) (a : Answer) (t₀ : List ℕ) (co
       let front : length (take made out′) ≡ made = length-take-le made out′ (g .room) in
       let whole : out′ ≡ take made out′ ++ drop made out = rw (← g .rest) (sym (take-append-drop made out′)) in
       rw (eq-eqb (encodeCall inst t .answer .number) 0 encoded, end, front)
-      (refl, refl, whole, refl, λ z. upheld inst t c t′ (take made out′) (rw end at (drive-reached inst t c out calls target)))
+      (refl, refl, whole, refl, λ z. rw end at (drive-upheld inst t c out target calls))

@@ -11,8 +11,8 @@ use Rattle.wcsp.specs.Resolve.{Pair, nextPair}
 use Rattle.wcsp.specs.Rebuild.{rebuilt}
 use Rattle.input.specs.Instance.{padded}
 use Rattle.table.specs.Layout.{capacity, tableWords}
-use Rattle.stepping.specs.Step.{oneStep}
 use Rattle.stepping.specs.Advance.{withRows}
+use Rattle.resolution.specs.Step.{oneStep}
 use Rattle.resolution.specs.Run.{runRows}
 use Rattle.resolution.specs.Calls.{stepReturns, stepCall, runReturns, runCall}
 use Rattle.assignment.specs.Calls.{tableAssignment, planOn, planCall}

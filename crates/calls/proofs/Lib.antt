@@ -7,3 +7,4 @@ pub mod Accepting
 pub mod Leaving
 pub mod Asking
 pub mod Driving
+pub mod Witness

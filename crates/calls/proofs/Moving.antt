@@ -110,7 +110,7 @@ module _ (inst t : List ℕ) (c : Coded inst t) where
 
   -- ---- the invariant
 
-  pub call-reached : (st : State) (call : Call) → Reached inst t st → Reached inst t (afterCall st call)
+  call-reached : (st : State) (call : Call) → Reached inst t st → Reached inst t (afterCall st call)
   unfolding afterCall
   call-reached st stepAsked m =
       let l = moved-left m in

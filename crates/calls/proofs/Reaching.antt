@@ -3,21 +3,19 @@
 use Prim.Native.Nat.{ℕ, suc, _+_, _≤_, _<_}
 use native.Mathlib.Omega.{arith}
 use mathlib.Core.Path.{_≡_}
-use mathlib.Core.Bool.{cond}
 use mathlib.Core.List.{List, [], _∷_, _++_}
 use mathlib.Core.Option.{some}
 use lib.ListN.{length}
-use lib.Dec.{ltb}
 use borrow.Author.Tests.{le-ltb}
 use Rattle.wcsp.specs.Row.{Row}
 use Rattle.wcsp.specs.Resolve.{Pair, nextPair, resolve, Steps}
 use Rattle.wcsp.proofs.NextPair.{next-permitted}
 use Rattle.words.proofs.Reading.{read-step}
 use Rattle.input.specs.Instance.{instanceFault, sizesOf, padded}
-use Rattle.stepping.specs.Step.{refusing, stepping, allowed, pairWord}
+use Rattle.stepping.specs.Step.{stepping, pairWord}
 use Rattle.checker.specs.Replay.{namedPair, replayOn, replayWord, replayNext, replay}
-use Rattle.checker.proofs.Kept.{step-keeps, keeps-light, twelve}
-use Rattle.checker.proofs.Replaying.{Left, permitted-passes}
+use Rattle.checker.proofs.Kept.{step-keeps, twelve}
+use Rattle.checker.proofs.Replaying.{Left, allowed-room, permitted-passes}
 use Rattle.calls.specs.Calls.{Derives}
 
 pub data Reaches (ds : List ℕ) (cap : ℕ) : List Row → List ℕ → List Row → Type 0 where
@@ -49,16 +47,6 @@ module _ (inst : List ℕ) (accepted : instanceFault inst ≡ 0) (cap : ℕ) whe
   reaches-left l still = l
   reaches-left l (onward pr e f a) = reaches-left (next-left pr l e f) a
 
-  -- 11 never: only the room is asked for
-  pub allowed-room : {rs : List Row} (pr : Pair) → Left inst cap rs → nextPair (padded (sizesOf inst)) rs ≡ some pr
-      → allowed cap pr (resolve (padded (sizesOf inst)) pr rs)
-      ≡ cond (ltb cap (length (resolve (padded (sizesOf inst)) pr rs))) (refusing 12) (stepping pr (resolve (padded (sizesOf inst)) pr rs))
-  unfolding allowed
-  allowed-room {rs} pr l e =
-      let ds = padded (sizesOf inst) in
-      let k = step-keeps inst accepted rs (l .keeps) pr (next-permitted ds rs pr e) in
-      rw (keeps-light inst accepted (resolve ds pr rs) k)
-
   module _ (small : cap ≤ 4096) where
     -- the step word of the next pair is replayed
     word-replayed : {rs : List Row} (pr : Pair) → Left inst cap rs → nextPair (padded (sizesOf inst)) rs ≡ some pr
@@ -75,7 +63,7 @@ module _ (inst : List ℕ) (accepted : instanceFault inst ≡ 0) (cap : ℕ) whe
         rw (
           read-step (pr .variable) (pr .first) (pr .second) s i j,
           permitted-passes ds rs pr m,
-          allowed-room pr l e,
+          allowed-room inst accepted cap (l .keeps) pr m,
           le-ltb cap (length (resolve ds pr rs)) f,
         )
 

@@ -1,6 +1,7 @@
 -- A run on rows that keep the instance: the words it makes are those of steps on the next pair whose rows fit, and it ends with no pair left,
--- at its limit, or before a step that lacks room. By induction on the steps that it may still make.
+-- at its limit, or short of its limit before a step that lacks room. By induction on the steps that it may still make.
 use Prim.Native.Nat.{ℕ, zero, suc, _<_}
+use native.Mathlib.Omega.{arith}
 use mathlib.Core.Path.{_≡_, refl, sym, ap, _∙_}
 use mathlib.Core.Bool.{Bool, true, false, cond}
 use mathlib.Core.List.{List, [], _∷_, _++_, append-nil, append-assoc}
@@ -10,17 +11,19 @@ use lib.Dec.{ltb}
 use borrow.Author.Tests.{ltb-true, ltb-false}
 use Rattle.wcsp.specs.Row.{Row}
 use Rattle.wcsp.specs.Resolve.{Pair, nextPair, resolve}
+use Rattle.wcsp.proofs.NextPair.{next-permitted}
 use Rattle.input.specs.Instance.{instanceFault, sizesOf, padded}
-use Rattle.stepping.specs.Step.{Stepping, finished, refusing, stepping, onPair, oneStep, pairWord}
+use Rattle.stepping.specs.Step.{Stepping, finished, refusing, stepping, pairWord}
+use Rattle.resolution.specs.Step.{onPair, oneStep}
 use Rattle.resolution.specs.Run.{Ending, done, paused, stopped, Ran, after, atLimit, runRows}
-use Rattle.checker.proofs.Replaying.{Left}
-use Rattle.calls.proofs.Reaching.{Reaches, still, onward, next-left, allowed-room}
+use Rattle.checker.proofs.Replaying.{Left, allowed-room}
+use Rattle.calls.proofs.Reaching.{Reaches, still, onward, next-left}
 
 -- how a run of n steps out of k may have ended on these rows
 pub data Ends (ds : List ℕ) (cap k n : ℕ) (rs : List Row) : Ending → Type 0 where
   noneLeft : nextPair ds rs ≡ none → Ends ds cap k n rs done
   limitMet : n ≡ k → (pr : Pair) → nextPair ds rs ≡ some pr → Ends ds cap k n rs paused
-  noRoom : (pr : Pair) → nextPair ds rs ≡ some pr → cap < length (resolve ds pr rs) → Ends ds cap k n rs (stopped 12)
+  noRoom : n < k → (pr : Pair) → nextPair ds rs ≡ some pr → cap < length (resolve ds pr rs) → Ends ds cap k n rs (stopped 12)
 
 pub record Runs (ds : List ℕ) (cap k : ℕ) (rs : List Row) (before : List ℕ) (ran : Ran) : Type 0 where
   pub words : List ℕ
@@ -32,7 +35,7 @@ pub record Runs (ds : List ℕ) (cap k : ℕ) (rs : List Row) (before : List ℕ
 later : {ds : List ℕ} {cap k n : ℕ} {rs : List Row} {e : Ending} → Ends ds cap k n rs e → Ends ds cap (suc k) (suc n) rs e
 later (noneLeft x) = noneLeft x
 later (limitMet l pr x) = limitMet (ap suc l) pr x
-later (noRoom pr x f) = noRoom pr x f
+later (noRoom l pr x f) = noRoom (omega arith) pr x f
 
 pub no-step : (ds : List ℕ) (cap : ℕ) (rs : List Row) → nextPair ds rs ≡ none → oneStep ds cap rs ≡ finished
 unfolding oneStep onPair
@@ -43,7 +46,7 @@ module _ (inst : List ℕ) (accepted : instanceFault inst ≡ 0) (cap : ℕ) whe
       → oneStep (padded (sizesOf inst)) cap rs
       ≡ cond (ltb cap (length (resolve (padded (sizesOf inst)) pr rs))) (refusing 12) (stepping pr (resolve (padded (sizesOf inst)) pr rs))
   unfolding oneStep onPair
-  next-step pr l e = rw e (allowed-room inst accepted cap pr l e)
+  next-step {rs} pr l e = rw e (allowed-room inst accepted cap (l .keeps) pr (next-permitted (padded (sizesOf inst)) rs pr e))
 
   pub run-runs : (k : ℕ) (rs : List Row) (before : List ℕ) → Left inst cap rs
       → Runs (padded (sizesOf inst)) cap k rs before (runRows (padded (sizesOf inst)) cap k rs before)
@@ -74,7 +77,7 @@ module _ (inst : List ℕ) (accepted : instanceFault inst ≡ 0) (cap : ℕ) whe
             words = [];
             made = sym (append-nil before);
             reaches = still;
-            ends = noRoom pr e (ltb-true cap (length (resolve ds pr rs)) f);
+            ends = noRoom (omega arith) pr e (ltb-true cap (length (resolve ds pr rs)) f);
           }
       room pr e false f ih =
           let fits = ltb-false cap (length (resolve ds pr rs)) f in

@@ -41,7 +41,7 @@ ends-run : (inst t : List ℕ) (most n : ℕ) (rs : List Row) (e : Ending) → E
 unfolding outcomeOf
 ends-run inst t most n rs done (noneLeft e) = e
 ends-run inst t most n rs paused (limitMet l pr e) = (l, (pr, e))
-ends-run inst t most n rs (stopped k) (noRoom pr e f) = (refl, (pr, e, f))
+ends-run inst t most n rs (stopped k) (noRoom l pr e f) = (refl, l, (pr, e, f))
 
 -- a step call that found a pair did not answer done
 not-done : (t : List ℕ) (b : Bool) (pr : Pair) (rs : List Row) → stepReturns t (cond b (refusing 12) (stepping pr rs)) .answer ≡ Done → ⊥
@@ -67,7 +67,6 @@ module _ (inst t : List ℕ) (c : Coded inst t) where
         record {
           inRange = range;
           attained = attained;
-          least = least;
           isLeast = record { assignment = p; inRange = range; attained = attained; least = least };
         }
 

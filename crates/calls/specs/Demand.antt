@@ -32,19 +32,18 @@ domainsOf inst = padded (sizesOf inst)
 abbrev pub room : List ℕ → List ℕ → ℕ
 room inst t = capacity (length t) (length (sizesOf inst))
 
--- how a further run ends: with no pair left; at its limit or the end of its slice with a pair left; or by 12, with a pair left
--- whose finished step needs more rows than the capacity. Never by another refusal.
+-- how a further run ends: with no pair left; at its limit or the end of its slice with a pair left; or by 12, with steps still to make and
+-- a pair left whose finished step needs more rows than the capacity. Never by another refusal.
 abbrev pub RunEnds : List ℕ → List ℕ → ℕ → ℕ → List Row → Outcome → Type 0
 RunEnds inst t most steps rs Outcome.Done = nextPair (domainsOf inst) rs ≡ none
 RunEnds inst t most steps rs Outcome.Paused = (steps ≡ most) × ((pr : Pair) × (nextPair (domainsOf inst) rs ≡ some pr))
 RunEnds inst t most steps rs (Outcome.Refused k) =
-    (k ≡ 12) × ((pr : Pair) × (nextPair (domainsOf inst) rs ≡ some pr) × (room inst t < length (resolve (domainsOf inst) pr rs)))
+    (k ≡ 12) × (steps < most) × ((pr : Pair) × (nextPair (domainsOf inst) rs ≡ some pr) × (room inst t < length (resolve (domainsOf inst) pr rs)))
 
 -- once no pair is left: the rebuilt assignment has exactly the empty row's weight as cost, which is the least cost
 pub record Best (inst : List ℕ) (plan : List ℕ) (bound : ℕ) : Type 0 where
   pub inRange : InRange (sizesOf inst) plan
   pub attained : cost (entriesOf inst) plan ≡ bound
-  pub least : (p : List ℕ) → InRange (sizesOf inst) p → bound ≤ cost (entriesOf inst) p
   pub isLeast : LeastCost (sizesOf inst) (entriesOf inst) bound
 
 -- what holds of the table t′ and the derivation ws after a list of calls that began with the encoding of inst in t

@@ -3,7 +3,7 @@ use Prim.Native.Nat.{ℕ}
 use mathlib.Core.Path.{_≡_}
 use mathlib.Core.List.{List}
 use mathlib.Core.Option.{none}
-use lib.ListN.{length}
+use lib.ListN.{length, take}
 use Rattle.wcsp.specs.Row.{emptyWeight}
 use Rattle.wcsp.specs.Resolve.{nextPair}
 use Rattle.input.specs.Instance.{maxVariables}
@@ -13,6 +13,7 @@ use Rattle.assignment.specs.Calls.{tableAssignment}
 use Rattle.checker.specs.Calls.{checkCall}
 use Rattle.calls.specs.Calls.{Call, started, afterCalls}
 use Rattle.calls.specs.Demand.{domainsOf}
+use Rattle.calls.specs.Driver.{driveAll}
 
 -- once no pair is left: every step of the derivation is replayed, and the claim of the rebuilt assignment with the empty row's weight holds
 abbrev pub DerivationAccepted : Type 0
@@ -22,3 +23,13 @@ DerivationAccepted = (inst t : List ℕ) (calls : List Call) → encodeCall inst
     → checkCall inst (afterCalls (started inst t) calls .derivation) (tableAssignment (afterCalls (started inst t) calls .table))
     (emptyWeight maxVariables (tableRows (afterCalls (started inst t) calls .table))) work .answer
     ≡ record { number = 0; steps = length (afterCalls (started inst t) calls .derivation) }
+
+-- the same of the driver: what it leaves in front of its slice is accepted
+abbrev pub DrivenAccepted : Type 0
+DrivenAccepted = (inst t calls out target : List ℕ)
+    → let r = driveAll inst t calls out target in
+    r .answer .number ≡ 0
+    → nextPair (domainsOf inst) (tableRows (r .table)) ≡ none
+    → (work : List ℕ) → length work ≡ length t
+    → checkCall inst (take (r .answer .steps) (r .out)) (tableAssignment (r .table)) (emptyWeight maxVariables (tableRows (r .table))) work .answer
+    ≡ record { number = 0; steps = r .answer .steps }

@@ -1,8 +1,9 @@
 -- A list of calls as words, and what making them one after the other comes to. A call word has its kind in the top four bits: 0 a step; 1 a
 -- run, its limit in bits 14-27 and the length of its slice in bits 0-13; 2 a plan, the length of its target in bits 0-27. Others ask for nothing.
 use Prim.Native.Nat.{ℕ, _/_, _%_}
+use mathlib.Core.Path.{_≡_}
 use mathlib.Core.Bool.{cond}
-use mathlib.Core.List.{List, [], _∷_, _++_}
+use mathlib.Core.List.{List, [], _∷_, _++_, Option·toList}
 use mathlib.Core.Option.{Option, none, some}
 use lib.ListN.{length, take, drop}
 use lib.Dec.{eqb}
@@ -10,7 +11,7 @@ use Rattle.words.specs.Layout.{kindOf, payloadOf}
 use Rattle.encoding.specs.Calls.{encodeCall}
 use Rattle.assignment.specs.Calls.{planCall}
 use Rattle.calls.specs.declared.Driven.{Driven}
-use Rattle.calls.specs.Calls.{Call, stepAsked, runAsked, planAsked, State, afterCall, started}
+use Rattle.calls.specs.Calls.{Call, stepAsked, runAsked, planAsked, State, afterCall, afterCalls, started}
 
 abbrev pub limitOf : ℕ → ℕ
 limitOf w = payloadOf w / 16384
@@ -50,6 +51,17 @@ unfolding driveWord
 driveWords out d [] = d
 driveWords out d (w ∷ ws) = driveWords out (driveWord out d w) ws
 
+-- the calls that the words ask for, each from what the words before it left
+unfoldable pub callsAsked : List ℕ → Driving → List ℕ → List Call
+unfolding driveWord
+callsAsked out d [] = []
+callsAsked out d (w ∷ ws) =
+    Option·toList (asked (drop (length (d .state .derivation)) out) (d .target) w) ++ callsAsked out (driveWord out d w) ws
+
+-- what the driver does to the table and the derivation is a list of calls
+abbrev pub DrivesCalls : Type 0
+DrivesCalls = (out : List ℕ) (d : Driving) (ws : List ℕ) → driveWords out d ws .state ≡ afterCalls (d .state) (callsAsked out d ws)
+
 -- the slice for step words with a derivation in front
 abbrev pub written : List ℕ → List ℕ → List ℕ
 written out ws = ws ++ drop (length ws) out
@@ -61,17 +73,23 @@ pub record DriveReturned : Type 0 where
   pub out : List ℕ
   pub target : List ℕ
 
+-- where the driver starts, and what it returns once it has made the calls
+abbrev pub startOf : List ℕ → List ℕ → List ℕ → Driving
+startOf inst t target = record { state = started inst t; target = target }
+
+abbrev pub driveReturns : List ℕ → Driving → DriveReturned
+driveReturns out d =
+    record {
+      answer = record { number = 0; steps = length (d .state .derivation) };
+      table = d .state .table;
+      out = written out (d .state .derivation);
+      target = d .target;
+    }
+
 -- drive: the encoding's refusals with memory unchanged; else each call in turn
 unfoldable pub driveAll : List ℕ → List ℕ → List ℕ → List ℕ → List ℕ → DriveReturned
 unfolding driveWords
 driveAll inst t calls out target =
     let coded = encodeCall inst t in
-    let d = driveWords out (record { state = started inst t; target = target }) calls in
-    cond (eqb (coded .answer .number) 0)
-    (record {
-      answer = record { number = 0; steps = length (d .state .derivation) };
-      table = d .state .table;
-      out = written out (d .state .derivation);
-      target = d .target;
-    })
+    cond (eqb (coded .answer .number) 0) (driveReturns out (driveWords out (startOf inst t target) calls))
     (record { answer = record { number = coded .answer .number; steps = 0 }; table = t; out = out; target = target })

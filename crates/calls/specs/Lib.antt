@@ -4,3 +4,4 @@ pub mod Demand
 pub mod Derivation
 pub mod Driver
 pub mod Slices
+pub mod Witness

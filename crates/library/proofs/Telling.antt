@@ -3,14 +3,16 @@ use Prim.Native.Nat.{ℕ}
 use mathlib.Core.Path.{_≡_, sym, ap, _∙_}
 use mathlib.Core.List.{List, [], _∷_}
 use lib.ListN.{take}
+use borrow.Author.Tests.{ne-eqb}
 use Rattle.input.specs.declared.Answer.{Answer}
 use Rattle.resolution.specs.declared.StepAnswer.{StepAnswer}
+use Rattle.resolution.specs.declared.Outcome.{Outcome}
 use Rattle.resolution.specs.declared.RunAnswer.{RunAnswer}
+use Rattle.resolution.specs.Numbers.{stepNumber, stepFields, outcomeField, runFields}
 use Rattle.checker.specs.declared.CheckAnswer.{CheckAnswer}
 use Rattle.calls.specs.declared.Driven.{Driven}
 use Rattle.calls.specs.Demand.{Upheld}
 use Rattle.library.specs.Noted.{noted}
-use Rattle.library.specs.Fields.{stepNumber, stepFields, outcomeField, runFields}
 
 pub answer-told : (answer call : Answer) (xs ys : List ℕ) → answer ≡ call → ys ≡ noted xs (answer .value ∷ [])
     → (answer .number ≡ call .number) × (ys ≡ noted xs (call .value ∷ []))
@@ -26,6 +28,15 @@ step-told answer call found xs ys e f h =
 pub run-told : (answer call : RunAnswer) (field : ℕ) (xs ys : List ℕ) → answer ≡ call → field ≡ outcomeField (answer .outcome)
     → ys ≡ noted xs (field ∷ (answer .steps ∷ (answer .bound ∷ []))) → ys ≡ noted xs (runFields call)
 run-told answer call field xs ys e f h = (rw f at h) ∙ ap (λ (a : RunAnswer). noted xs (runFields a)) e
+
+-- the outcome field of a run refused with 9, and of one that another number stopped
+pub unrun-field : (o : Outcome) (k : ℕ) → o ≡ Outcome.Refused k → k ≡ 9 → 0 ≡ outcomeField o
+unfolding outcomeField
+unrun-field o k e h = rw (e, h)
+
+pub stopped-field : (o : Outcome) (k : ℕ) → o ≡ Outcome.Refused k → (k ≡ 9 → ⊥) → 2 ≡ outcomeField o
+unfolding outcomeField
+stopped-field o k e h = let f = ne-eqb k 9 h in rw (e, f)
 
 pub check-told : (answer call : CheckAnswer) (xs ys : List ℕ) → answer ≡ call → ys ≡ noted xs (answer .steps ∷ [])
     → (answer .number ≡ call .number) × (ys ≡ noted xs (call .steps ∷ []))

@@ -6,13 +6,13 @@ ghost use Rattle.input.specs.Calls.{costCall};
 ghost use Rattle.sheet.specs.Calls.{makeCall};
 ghost use Rattle.encoding.specs.Calls.{encodeCall};
 ghost use Rattle.resolution.specs.Calls.{stepCall, runCall};
+ghost use Rattle.resolution.specs.Numbers.{stepNumber, stepFields, outcomeNumber, outcomeField, runNumber, runFields};
 ghost use Rattle.assignment.specs.Calls.{planCall};
 ghost use Rattle.readout.specs.Calls.{readoutCall};
 ghost use Rattle.checker.specs.Calls.{checkCall};
 ghost use Rattle.calls.specs.Demand.{Upheld};
 ghost use Rattle.calls.specs.Driver.{driveAll};
 ghost use Rattle.library.specs.Noted.{noted};
-ghost use Rattle.library.specs.Fields.{stepNumber, stepFields, outcomeNumber, outcomeField, runNumber, runFields};
 use resolution::Outcome;
 use resolution::StepAnswer;
 
@@ -103,11 +103,11 @@ fn outcome_field(outcome: Outcome) -> u64
     match outcome {
         Outcome::Done => 0,
         Outcome::Paused => 1,
-        Outcome::Refused(_) => 2,
+        Outcome::Refused(k) => if k == 9 { 0 } else { 2 },
     }
 }
 
-// Make steps one after the other. Answer: the outcome, the steps made, the bound.
+// Make steps one after the other. Answer: the outcome, the steps made, the bound; all 0 for 9.
 #[no_mangle]
 pub extern "C" fn gotalhim_run(
     table: &mut [u32],

@@ -30,10 +30,11 @@ use Rattle.table.proofs.Canonical.{validIsCanonical}
 use Rattle.hunt.specs.declared.Hunted.{Hunted}
 use Rattle.hunt.specs.declared.Hunted.the-variants.{Next, Nothing}
 use Rattle.hunt.specs.Hunt.{Cleared, Settled}
-use Rattle.stepping.specs.Step.{Stepping, finished, refusing, stepping, allowed, oneStep, pairWord}
+use Rattle.stepping.specs.Step.{Stepping, finished, refusing, stepping, allowed, pairWord}
 use Rattle.stepping.specs.Advance.{withRows}
 use Rattle.resolution.specs.declared.Outcome.{Outcome}
 use Rattle.resolution.specs.declared.RunAnswer.{RunAnswer}
+use Rattle.resolution.specs.Step.{oneStep}
 use Rattle.resolution.specs.Run.{Ending, done, paused, stopped, Ran, after, atLimit, runRows, resumed}
 use Rattle.resolution.specs.Calls.{outcomeOf, runReturns, runCall}
 use Rattle.resolution.proofs.Bounding.{ready, find-room}
@@ -253,9 +254,9 @@ module _ {t₀ : List ℕ} {most : ℕ} {slice₀ t slice : List ℕ} {count buc
         let z : most - made ≡ 0 = omega arith in
         gives paused r t (g .goes ∙ run-paused (domains t) (capacityOf t) (most - made) (tableRows t) (g .words) pr next z) a refl
 
-    module _ (h : made ≡ most → ⊥) where
+    module _ (h : made < most) where
       one-left : most - made ≡ suc (most - (made + 1))
-      one-left = omega (arith, g .within, h)
+      one-left = omega (arith, h)
 
       pub gives-refused : (k : ℕ) (t′ : List ℕ)
           → (allowed (capacityOf t) pr (resolve (domains t) pr (tableRows t)) ≡ refusing k) × (t′ ≡ t) → (r : RunAnswer) (number : ℕ) → number ≡ k
@@ -273,7 +274,7 @@ module _ {t₀ : List ℕ} {most : ℕ} {slice₀ t slice : List ℕ} {count buc
       going-on now old t′ a w p from′ z =
           let f = following t (g .valid) pr next now old t′ a in
           let one : made + 1 ≡ suc made = omega arith in
-          let fits : made < length slice₀ = omega (arith, g .within, g .room, h) in
+          let fits : made < length slice₀ = omega (arith, g .room, h) in
           let d = f .domained in
           let rows = f .rows in
           let c = f .capacious in
@@ -292,7 +293,7 @@ module _ {t₀ : List ℕ} {most : ℕ} {slice₀ t slice : List ℕ} {count buc
                 (run-on (domains t) (capacityOf t) (most - made) (tableRows t) (g .words) (most - (made + 1)) one-left pr
                 (resolve (domains t) pr (tableRows t)) e);
             steps = length-append (g .words) (w ∷ []) ∙ omega (arith, g .steps);
-            within = omega (arith, g .within, h);
+            within = omega (arith, h);
             room = g .room;
             sliced = rw (sliced, one) (word-put (g .words) slice₀ made w (g .steps) fits);
             asLong = length-set slice made w ∙ g .asLong;

@@ -29,10 +29,11 @@ use Rattle.hunt.specs.declared.Hunted.the-variants.{Next, Nothing}
 use Rattle.hunt.specs.Hunt.{huntedOf, Cleared, Settled}
 use Rattle.stepping.specs.declared.Advanced.{Advanced}
 use Rattle.stepping.specs.declared.Advanced.the-variants.{Made, Refused}
-use Rattle.stepping.specs.Step.{Stepping, finished, refusing, stepping, allowed, onPair, oneStep, pairWord}
+use Rattle.stepping.specs.Step.{Stepping, finished, refusing, stepping, allowed, pairWord}
 use Rattle.stepping.specs.Advance.{withRows, usedUp, advanceReturns, advanceCall}
 use Rattle.stepping.proofs.Surveying.{ready-shape}
 use Rattle.resolution.specs.declared.StepAnswer.{StepAnswer}
+use Rattle.resolution.specs.Step.{onPair, oneStep}
 use Rattle.resolution.specs.Calls.{stepReturns, stepCall}
 use Rattle.resolution.proofs.Bounding.{ready, find-room}
 
@@ -177,11 +178,11 @@ module _ (t : List ℕ) (v : validTable t ≡ true) (pr : Pair) (next : nextPair
       }
 
 -- what the verdict on a step's finished rows says
-data Verdict (cap : ℕ) (pr : Pair) (rs : List Row) : Stepping → Type 0 where
+pub data Verdict (cap : ℕ) (pr : Pair) (rs : List Row) : Stepping → Type 0 where
   refused : (k : ℕ) → Verdict cap pr rs (refusing k)
   made : tooHeavy rs ≡ false → length rs ≤ cap → Verdict cap pr rs (stepping pr rs)
 
-verdict : (cap : ℕ) (pr : Pair) (rs : List Row) → Verdict cap pr rs (allowed cap pr rs)
+pub verdict : (cap : ℕ) (pr : Pair) (rs : List Row) → Verdict cap pr rs (allowed cap pr rs)
 unfolding allowed
 verdict cap pr rs = go (tooHeavy rs) refl (ltb cap (length rs)) refl
   where
@@ -209,6 +210,9 @@ old-in (Refused k) = k
 
 pub not-made : {x : Advanced} {a b : ℕ} → x ≡ Made a b → (k : ℕ) → x ≡ Refused k → 0 ≡ k
 not-made p k q = absurd (let z : _≡_ {A = ℕ} 0 1 = cc in omega arith)
+
+pub not-refused : {x : Advanced} {m : ℕ} → x ≡ Refused m → (a b : ℕ) → x ≡ Made a b → m ≡ 0
+not-refused p a b q = absurd (let z : _≡_ {A = ℕ} 0 1 = cc in omega arith)
 
 pub one-number : {x : Advanced} {m : ℕ} → x ≡ Refused m → (k : ℕ) → x ≡ Refused k → m ≡ k
 unfolding now-in

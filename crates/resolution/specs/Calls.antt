@@ -12,8 +12,9 @@ use Rattle.resolution.specs.declared.StepAnswer.{StepAnswer}
 use Rattle.resolution.specs.declared.StepAnswer.the-variants.{Refused, Done, Stepped}
 use Rattle.resolution.specs.declared.Outcome.{Outcome}
 use Rattle.resolution.specs.declared.RunAnswer.{RunAnswer}
-use Rattle.stepping.specs.Step.{Stepping, finished, refusing, stepping, oneStep, pairWord}
+use Rattle.stepping.specs.Step.{Stepping, finished, refusing, stepping, pairWord}
 use Rattle.stepping.specs.Advance.{withRows}
+use Rattle.resolution.specs.Step.{oneStep}
 use Rattle.resolution.specs.Run.{Ending, done, paused, stopped, Ran, runRows}
 
 -- a step call's answer, and its table as the call returns

@@ -7,7 +7,8 @@ use lib.ListN.{getD}
 use lib.Dec.{ltb}
 use Rattle.wcsp.specs.Row.{Row}
 use Rattle.wcsp.specs.Resolve.{Pair, noRow, nextPair}
-use Rattle.stepping.specs.Step.{Stepping, finished, refusing, stepping, oneStep, pairWord}
+use Rattle.stepping.specs.Step.{Stepping, finished, refusing, stepping, pairWord}
+use Rattle.resolution.specs.Step.{oneStep}
 
 -- why a run ended
 pub data Ending : Type 0 where

@@ -75,7 +75,7 @@ pub fn step(t: &mut [u32]) -> StepAnswer
 
 // The number of a refusal, 0 for a step that was made.
 fn refusal_in(advanced: Advanced) -> u32
-    ensures { λ r. ⌜ ((k : ℕ) → advanced ≡ Advanced.Refused k → r ≡ k) ⌝ }
+    ensures { λ r. ⌜ ((k : ℕ) → advanced ≡ Advanced.Refused k → r ≡ k) × ((count old : ℕ) → advanced ≡ Advanced.Made count old → r ≡ 0) ⌝ }
 {
     match advanced {
         Advanced::Made(_, _) => 0,

@@ -1,10 +1,11 @@
 -- The raw row of a packed clause: its clause and its weight are read back from it, and two such rows have the same sign words exactly if the clauses have the same signs.
 use Prim.Native.Nat.{ℕ, zero, suc, _+_, _*_, _%_, _<_}
+use native.Mathlib.Nat.{add-zero}
 use native.Mathlib.Omega.{arith}
 use mathlib.Core.Path.{_≡_, refl, sym, ap, ap₂, _∙_}
 use mathlib.Core.Bool.{Bool, true, false, _&&_, false≢true}
 use mathlib.Core.List.{List, [], _∷_, _++_}
-use lib.ListN.{take, drop}
+use lib.ListN.{getD, take, drop}
 use lib.Dec.{eqb}
 use borrow.Author.Tests.{eqb-true, eq-eqb}
 use Rattle.wcsp.specs.Clause.{same}
@@ -13,7 +14,7 @@ use Rattle.words.specs.Layout.{signsWord, weightWord, unpacked}
 use Rattle.clause.specs.declared.Clause.{Clause}
 use Rattle.clause.specs.Packed.{Packed, signsOf}
 use Rattle.clause.proofs.Signs12.{same-clause, clause-same}
-use Rattle.rows.specs.Raw.{Raw, rawRow, clauseIn, sameSigns}
+use Rattle.rows.specs.Raw.{Raw, rawAt, rawRow, clauseIn, sameSigns}
 
 ne-true : (b : Bool) → (b ≡ true → ⊥) → b ≡ false
 ne-true true n = absurd (n refl)
@@ -58,6 +59,30 @@ sameSigns-c r q n = ne-true (sameSigns r q) (λ e. n (sameSigns-parts r q e .2))
 
 pub sameSigns-d : (r q : Raw) → (r .d ≡ q .d → ⊥) → sameSigns r q ≡ false
 sameSigns-d r q n = ne-true (sameSigns r q) (λ e. n (sameSigns-parts r q e .3))
+
+-- the word at each place of four
+module _ (a b c d k : ℕ) where
+  pub word-first : k ≡ 0 → a ≡ getD (a ∷ b ∷ c ∷ d ∷ []) k 0
+  word-first e = rw e
+
+  pub word-second : k ≡ 1 → b ≡ getD (a ∷ b ∷ c ∷ d ∷ []) k 0
+  word-second e = rw e
+
+  pub word-third : k ≡ 2 → c ≡ getD (a ∷ b ∷ c ∷ d ∷ []) k 0
+  word-third e = rw e
+
+  pub word-fourth : k ≡ 3 → d ≡ getD (a ∷ b ∷ c ∷ d ∷ []) k 0
+  word-fourth e = rw e
+
+-- the word at place k, of the row at `at` and of q
+pub sameSigns-at : (t : List ℕ) (at : ℕ) (q : Raw) (k word : ℕ) → k < 4 → word ≡ getD (q .a ∷ q .b ∷ q .c ∷ q .d ∷ []) k 0
+    → (getD t (at + k) 0 ≡ word → ⊥) → sameSigns (rawAt t at) q ≡ false
+unfolding rawAt
+sameSigns-at t at q zero word h e n = sameSigns-a (rawAt t at) q (λ f. n (rw add-zero (f ∙ sym e)))
+sameSigns-at t at q (suc zero) word h e n = sameSigns-b (rawAt t at) q (λ f. n (f ∙ sym e))
+sameSigns-at t at q (suc (suc zero)) word h e n = sameSigns-c (rawAt t at) q (λ f. n (f ∙ sym e))
+sameSigns-at t at q (suc (suc (suc zero))) word h e n = sameSigns-d (rawAt t at) q (λ f. n (f ∙ sym e))
+sameSigns-at t at q (suc (suc (suc (suc k)))) word h e n = absurd (omega arith)
 
 -- rows of clauses with the same sign words are rows of the same clause
 pub sameSigns-clause : (x y : Clause) (w v : ℕ) → sameSigns (rawRow x w) (rawRow y v) ≡ true → x ≡ y

@@ -2,7 +2,7 @@
 ghost use mathlib.Core.Path.{_≡_};
 ghost use mathlib.Core.List.{List, [], _∷_, _++_};
 ghost use Prim.Native.Nat.{_+_, _*_, _<_, _≤_, _%_};
-ghost use lib.ListN.{length, take, drop, replicate};
+ghost use lib.ListN.{length, getD, take, drop, replicate};
 ghost use Rattle.words.specs.Layout.{weightWord};
 ghost use Rattle.clause.specs.Packed.{Packed};
 ghost use Rattle.rows.specs.Raw.{Raw, flat, rawAt, rawsIn, Laid, Left, rawRow, clauseIn, findFrom, reweighed, without};
@@ -37,7 +37,40 @@ pub fn weight_of(t: &[u32], base: usize, k: usize) -> u32
     t[at + 4] % 268435456
 }
 
-// The first row with this clause's sign words.
+// The place of a sign word that few rows share: the first with a literal.
+fn telling(x: Clause) -> usize
+    ensures { λ r. ⌜ r < 4 ⌝ }
+{
+    if x.a != 0 {
+        return 0;
+    }
+    if x.b != 0 {
+        return 1;
+    }
+    if x.c != 0 {
+        return 2;
+    }
+    3
+}
+
+// The word at place k of four.
+fn word_at(k: usize, a: u32, b: u32, c: u32, d: u32) -> u32
+    requires { ⌜ k < 4 ⌝ }
+    ensures { λ r. ⌜ r ≡ getD (a ∷ b ∷ c ∷ d ∷ []) k 0 ⌝ }
+{
+    if k == 0 {
+        return a;
+    }
+    if k == 1 {
+        return b;
+    }
+    if k == 2 {
+        return c;
+    }
+    d
+}
+
+// The first row with this clause's sign words. One of them is compared first, which rules out nearly every row.
 pub fn find(t: &[u32], base: usize, count: usize, x: Clause) -> Found
     requires { ⌜ (base + 5 * count ≤ length (now t)) × Packed x ⌝ }
     ensures { λ r. ⌜ r ≡ findFrom (rawRow x 0) 0 (rawsIn (now (t .entry)) base count) ⌝ }
@@ -46,10 +79,17 @@ pub fn find(t: &[u32], base: usize, count: usize, x: Clause) -> Found
     let b = words::signs(1, x.b);
     let c = words::signs(2, x.c);
     let d = words::signs(3, x.d);
+    let tell = telling(x);
+    let word = word_at(tell, a, b, c, d);
     let mut at = base;
     let mut k = 0;
     while k < count {
-        if t[at] == a && t[at + 1] == b && t[at + 2] == c && t[at + 3] == d {
+        if t[at + tell] == word
+            && t[at] == a
+            && t[at + 1] == b
+            && t[at + 2] == c
+            && t[at + 3] == d
+        {
             return Found::At(k);
         }
         at += 5;

@@ -1,12 +1,11 @@
--- One step on rows, with what may stop it: 11 and 12 are facts of the finished step.
+-- What a step on rows comes to, and what may stop it: 11 and 12 are facts of the finished step.
 use Prim.Native.Nat.{ℕ}
 use mathlib.Core.Bool.{cond}
 use mathlib.Core.List.{List}
-use mathlib.Core.Option.{Option, none, some}
 use lib.ListN.{length}
 use lib.Dec.{ltb}
 use Rattle.wcsp.specs.Row.{Row}
-use Rattle.wcsp.specs.Resolve.{Pair, nextPair, resolve}
+use Rattle.wcsp.specs.Resolve.{Pair}
 use Rattle.words.specs.Layout.{stepWord}
 use Rattle.table.specs.Layout.{tooHeavy}
 
@@ -19,16 +18,6 @@ pub data Stepping : Type 0 where
 -- a step on this pair whose finished rows are these: 11 for a weight that passes the limit, then 12 for more rows than the capacity
 unfoldable pub allowed : ℕ → Pair → List Row → Stepping
 allowed cap pr rs = cond (tooHeavy rs) (refusing 11) (cond (ltb cap (length rs)) (refusing 12) (stepping pr rs))
-
-unfoldable pub onPair : List ℕ → ℕ → List Row → Option Pair → Stepping
-unfolding allowed
-onPair ds cap rs none = finished
-onPair ds cap rs (some pr) = allowed cap pr (resolve ds pr rs)
-
--- the step of Steps: on the next pair
-unfoldable pub oneStep : List ℕ → ℕ → List Row → Stepping
-unfolding onPair
-oneStep ds cap rs = onPair ds cap rs (nextPair ds rs)
 
 -- the step word of a pair
 abbrev pub pairWord : Pair → ℕ

@@ -1,7 +1,7 @@
 -- `library::gotalhim_run`: the outcome's number, with the answer's three fields noted.
 use borrow.Author.Needs.{needs}
 use mathlib.Core.Path.{ap, _∙_}
-use Rattle.library.specs.Fields.{runNumber}
+use Rattle.resolution.specs.Numbers.{runNumber}
 use Rattle.library.proofs.Telling.{run-told}
 use Rattle.library.proofs.gotalhim_run.Statement.{statement}
 use Rattle.library.proofs.gotalhim_run.Tie as tie

@@ -1,6 +1,6 @@
 -- `library::gotalhim_step`: the answer's number, with its two fields noted, by cases on the answer.
 use borrow.Author.Needs.{needs}
-use Rattle.library.specs.Fields.{stepNumber, stepFields}
+use Rattle.resolution.specs.Numbers.{stepNumber, stepFields}
 use Rattle.library.proofs.Telling.{step-told}
 use Rattle.library.proofs.gotalhim_step.Statement.{statement}
 use Rattle.library.proofs.gotalhim_step.Tie as tie

@@ -1,7 +1,7 @@
 -- `library::outcome_number`: a refused run's number, 0 for a run that is done or paused.
 use borrow.Author.Needs.{needs}
 use mathlib.Core.Path.{sym, ap}
-use Rattle.library.specs.Fields.{outcomeNumber}
+use Rattle.resolution.specs.Numbers.{outcomeNumber}
 use Rattle.library.proofs.outcome_number.Statement.{statement}
 use Rattle.library.proofs.outcome_number.Tie as tie
 

@@ -88,7 +88,7 @@ same-length-4 c = c .before .before .before .before .before .before .before .bef
 returns-2 : tie.Need-returns-2 Inv-loop μ-loop
 returns-2 c =
     let n = c .before .before .before .before in
-    gives-paused (n .before .before .before .before .loop .inv .0) _ (next n) (c .before .before .if1 .taken) _ (c .ended2 .ensures)
+    gives-paused (n .before .before .before .before .loop .inv .0) _ (next n) (omega (arith, c .before .before .if1 .taken)) _ (c .ended2 .ensures)
 
 resume-requires : tie.Need-resume-requires Inv-loop μ-loop
 resume-requires c κs =
@@ -138,9 +138,10 @@ returns-3 c =
     let told = c .before .before .before in
     let a = told .before .before .before .before in
     let n = a .before .before .before .before .before .before in
-    gives-refused (n .before .before .before .before .loop .inv .0) _ (next n) (a .before .before .before .before .if1 .left) _ _
+    let g = n .before .before .before .before .loop .inv .0 in
+    gives-refused g _ (next n) (omega (arith, g .within, a .before .before .before .before .if1 .left)) _ _
     (advance-refused _ _ _ _ (a .advance .ensures .0) (a .advance .ensures .1) _ (told .enum-told2 .given .1)) _ _
-    (c .before .refusal-in .ensures _ (told .enum-told2 .given .1)) (c .ended3 .ensures)
+    (c .before .refusal-in .ensures .0 _ (told .enum-told2 .given .1)) (c .ended3 .ensures)
 
 cast-step : tie.Need-cast-step Inv-loop μ-loop
 cast-step c =
@@ -184,7 +185,7 @@ loop-again c =
     let a = c .before .before .before .before .before .before in
     let n = a .before .before .before .before .before .before in
     let i = n .before .before .before .before .loop .inv in (
-      going-on (i .0) _ (next n) (a .before .before .before .before .if1 .left) _ _ _
+      going-on (i .0) _ (next n) (omega (arith, i .0 .within, a .before .before .before .before .if1 .left)) _ _ _
           (advance-made _ _ _ _ (a .advance .ensures .0) (a .advance .ensures .1) _ _ (c .before .before .advanced .given .1)) _ (c .step .ensures)
           _ (a .before .before .resume .ensures),
       i .1,

@@ -1,13 +1,14 @@
 -- `find` meets its contract. The loop's invariant: the search from row k on, whose words start at `at`, answers what the whole search answers. The measure is the number of rows left.
 use Prim.Native.Nat.{ℕ, _+_, _-_, _*_, _≤_}
 use native.Mathlib.Omega.{arith}
-use mathlib.Core.Path.{_≡_, sym, ap, _∙_}
+use mathlib.Core.Path.{_≡_, ap, _∙_}
 use mathlib.Core.Bool.{false}
 use mathlib.Core.Logic.{⊎-elim}
+use borrow.Author.Needs.{needs}
 use borrow.Author.Tests.{eqb-true, eqb-false}
 use Rattle.words.specs.Layout.{weightWord}
 use Rattle.rows.specs.Raw.{Raw, rawAt, rawsIn, rawRow, sameSigns, findFrom}
-use Rattle.rows.proofs.RowWords.{sameSigns-of, sameSigns-a, sameSigns-b, sameSigns-c, sameSigns-d, row-of-words}
+use Rattle.rows.proofs.RowWords.{sameSigns-of, sameSigns-a, sameSigns-b, sameSigns-c, sameSigns-d, sameSigns-at, row-of-words}
 use Rattle.rows.proofs.Searching.{find-start, find-here, find-next, find-end}
 use Rattle.rows.proofs.find.Statement.{statement}
 use Rattle.rows.proofs.find.Tie as tie
@@ -17,20 +18,23 @@ abbrev words : ℕ → ℕ → ℕ → ℕ → Raw
 words a b c d = record { a = a; b = b; c = c; d = d; w = weightWord 0 }
 
 abbrev Inv-loop : tie.InvT-loop
-Inv-loop t base count a b c d at₀ k₀ at k =
+Inv-loop t base count a b c d tell word at₀ k₀ at k =
     (findFrom (words a b c d) 0 (rawsIn t base count) ≡ findFrom (words a b c d) k (rawsIn t at (count - k))) × (at ≡ base + 5 * k) × (k ≤ count)
 
 abbrev μ-loop : tie.MeasureT-loop
-μ-loop t base count a b c d at₀ k₀ at k = count - k
+μ-loop t base count a b c d tell word at₀ k₀ at k = count - k
 
 -- the row looked for, at the loop's head
 abbrev looked : tie.At-loop Inv-loop μ-loop → Raw
-looked l = words (l .before .before .before .before .signs .result) (l .before .before .before .signs2 .result) (l .before .before .signs3 .result) (l .before .signs4 .result)
+looked l =
+    let m = l .before .before .before in
+    words (m .before .before .before .signs .result) (m .before .before .signs2 .result) (m .before .signs3 .result) (m .signs4 .result)
 
-as-row : (l : tie.At-loop Inv-loop μ-loop) → let g = l .before .before .before .before .before .before .args in
+as-row : (l : tie.At-loop Inv-loop μ-loop) → let g = l .before .before .before .before .before .before .before .before .args in
     findFrom (looked l) 0 (rawsIn (g .t .now) (g .base) (g .count)) ≡ findFrom (rawRow (g .x) 0) 0 (rawsIn (g .t .now) (g .base) (g .count))
 as-row l =
-    let g = l .before .before .before .before .before .before .args in
+    let m = l .before .before .before in
+    let g = m .before .before .before .before .before .args in
     ap
     (λ r. findFrom r 0 (rawsIn (g .t .now) (g .base) (g .count)))
     (row-of-words
@@ -39,44 +43,48 @@ as-row l =
     _
     _
     _
-    (l .before .before .before .before .signs .ensures)
-    (l .before .before .before .signs2 .ensures)
-    (l .before .before .signs3 .ensures)
-    (l .before .signs4 .ensures))
+    (m .before .before .before .signs .ensures)
+    (m .before .before .signs2 .ensures)
+    (m .before .signs3 .ensures)
+    (m .signs4 .ensures))
 
 loop-holds : tie.Need-loop-holds Inv-loop μ-loop
 loop-holds c =
-    let g = c .before .before .before .before .before .args in
+    let g = c .before .before .before .before .before .before .before .args in
     (find-start _ (g .t .now) (g .base) (g .count), omega arith, omega arith)
 
 returns : tie.Need-returns Inv-loop μ-loop
 unfolding rawAt
 returns c =
-    let l = c .before .before .before .before .before .before .before .before .before in
-    let g = l .before .before .before .before .before .before .args in
+    let l = c .before .before .before .before .before .before .before .before .before .before .before in
+    let g = l .before .before .before .before .before .before .before .before .args in
     let same =
-    sameSigns-of (rawAt (g .t .now) (l .loop .at)) (looked l) (omega arith) (eqb-true _ _ (c .before .before .before .before .if2 .taken)) (eqb-true _ _ (c .before .before .if3 .taken)) (eqb-true _ _ (c .if4 .taken)) in
+    sameSigns-of (rawAt (g .t .now) (l .loop .at)) (looked l) (eqb-true _ _ (c .before .before .before .before .before .before .if2 .taken)) (eqb-true _ _ (c .before .before .before .before .if3 .taken)) (eqb-true _ _ (c .before .before .if4 .taken)) (eqb-true _ _ (c .if5 .taken)) in
     find-here (looked l) (g .t .now) _ (g .count) (l .loop .k) (l .loop .at) (l .loop .inv .0) (omega arith) same ∙ as-row l
 
 loop-again : tie.Need-loop-again Inv-loop μ-loop
 unfolding rawAt
 loop-again c =
     let l = c .before .before .before in
-    let g = l .before .before .before .before .before .before .args in
+    let g = l .before .before .before .before .before .before .before .before .args in
     let r = rawAt (g .t .now) (l .loop .at) in
     let differ : sameSigns r (looked l) ≡ false =
     ⊎-elim
-    (λ w. sameSigns-d r (looked l) (eqb-false _ _ (w .6 .left)))
+    (λ w. sameSigns-d r (looked l) (eqb-false _ _ (w .8 .left)))
     (⊎-elim
-    (λ w. sameSigns-c r (looked l) (eqb-false _ _ (w .4 .left)))
-    (⊎-elim (λ w. sameSigns-b r (looked l) (eqb-false _ _ (w .2 .left))) (λ w. sameSigns-a r (looked l) (w .left))))
+    (λ w. sameSigns-c r (looked l) (eqb-false _ _ (w .6 .left)))
+    (⊎-elim
+    (λ w. sameSigns-b r (looked l) (eqb-false _ _ (w .4 .left)))
+    (⊎-elim
+    (λ w. sameSigns-a r (looked l) (eqb-false _ _ (w .2 .left)))
+    (λ w. sameSigns-at (g .t .now) (l .loop .at) (looked l) _ _ (l .before .before .telling .ensures) (l .before .word-at .ensures) (w .left)))))
     (c .if1 .came) in
     (find-next (looked l) (g .t .now) _ (g .count) (l .loop .k) (l .loop .at) (l .loop .inv .0) (omega arith) differ, omega arith, omega arith)
 
 returns-2 : tie.Need-returns-2 Inv-loop μ-loop
 returns-2 c =
     let l = c .before in
-    let g = l .before .before .before .before .before .before .args in
+    let g = l .before .before .before .before .before .before .before .before .args in
     find-end (looked l) (g .t .now) _ (g .count) (l .loop .k) (l .loop .at) (l .loop .inv .0) (omega arith) ∙ as-row l
 
 pub find-spec : {M : Type 1} → statement M
@@ -89,7 +97,12 @@ find-spec =
     (λ c κs. omega arith)
     (λ c κs. omega arith)
     (λ c κs. omega arith)
+    (λ c κs. search needs)
+    (λ c κs. omega arith)
     loop-holds
+    (λ c. omega arith)
+    (λ c. omega arith)
+    (λ c. omega arith)
     (λ c. omega arith)
     (λ c. omega arith)
     (λ c. omega arith)

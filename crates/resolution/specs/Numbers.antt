@@ -1,10 +1,12 @@
--- The number and the further fields of a step's and of a run's answer, as the exported calls hand them over.
+-- The paper's number and the further fields of a step's and of a run's answer.
 use Prim.Native.Nat.{ℕ}
+use mathlib.Core.Bool.{cond}
 use mathlib.Core.List.{List, [], _∷_}
+use lib.Dec.{eqb}
 use Rattle.resolution.specs.declared.StepAnswer.{StepAnswer}
 use Rattle.resolution.specs.declared.StepAnswer.the-variants.{Refused, Done, Stepped}
 use Rattle.resolution.specs.declared.Outcome.{Outcome}
 use Rattle.resolution.specs.declared.RunAnswer.{RunAnswer}
 
 -- done is a success, as a step is
 unfoldable pub stepNumber : StepAnswer → ℕ
@@ -24,11 +26,11 @@ outcomeNumber Outcome.Done = 0
 outcomeNumber Outcome.Paused = 0
 outcomeNumber (Outcome.Refused k) = k
 
--- 0 done, 1 paused, 2 refused
+-- 0 done, 1 paused, 2 stopped by 11 or 12; a table refused with 9 was not run, and all its fields are 0
 unfoldable pub outcomeField : Outcome → ℕ
 outcomeField Outcome.Done = 0
 outcomeField Outcome.Paused = 1
-outcomeField (Outcome.Refused k) = 2
+outcomeField (Outcome.Refused k) = cond (eqb k 9) 0 2
 
 abbrev pub runNumber : RunAnswer → ℕ
 runNumber ran = outcomeNumber (ran .outcome)

@@ -1,0 +1,64 @@
+-- P1 of document 01 on words, one variable of two values with costs 3 and 1: it meets each hypothesis of demand 3, of an accepted derivation,
+-- of the driver's and of an accepted claim. One field more, whose table is too short for its first step, shows the 12.
+use Prim.Native.Nat.{ℕ, _+_, _*_}
+use mathlib.Core.Path.{_≡_}
+use mathlib.Core.List.{List, [], _∷_}
+use mathlib.Core.Option.{none, some}
+use lib.ListN.{replicate}
+use Rattle.wcsp.specs.Resolve.{nextPair}
+use Rattle.words.specs.Layout.{headWord, sizeWord, bindingWord, costWord, stepWord}
+use Rattle.input.specs.Calls.{good}
+use Rattle.table.specs.Meaning.{tableRows}
+use Rattle.encoding.specs.Calls.{encodeCall}
+use Rattle.resolution.specs.declared.Outcome.{Outcome}
+use Rattle.resolution.specs.Calls.{runCall}
+use Rattle.assignment.specs.Calls.{planCall}
+use Rattle.checker.specs.Calls.{checkCall}
+use Rattle.calls.specs.Calls.{Call, runAsked, planAsked, started, afterCalls}
+use Rattle.calls.specs.Demand.{domainsOf}
+use Rattle.calls.specs.Driver.{DriveReturned, driveAll}
+
+abbrev pub p1 : List ℕ
+p1 = headWord 1 ∷ sizeWord 2 ∷ bindingWord 0 0 ∷ costWord 3 ∷ bindingWord 0 1 ∷ costWord 1 ∷ []
+
+-- a slice that takes two rows of one variable, or of two, whatever lay in it
+abbrev pub lent : List ℕ
+lent = replicate 14 7
+
+-- a run of at most five steps, and a plan
+abbrev pub p1Calls : List Call
+p1Calls = runAsked 5 (5 ∷ 6 ∷ []) ∷ planAsked (9 ∷ 8 ∷ []) ∷ []
+
+-- the driver's words for a step, for a run of limit 5 with a slice of 2 words, and for a plan into 1 byte
+abbrev pub p1Asks : List ℕ
+p1Asks = 0 ∷ (268435456 + 5 * 16384 + 2) ∷ (2 * 268435456 + 1) ∷ []
+
+abbrev pub p1Driven : DriveReturned
+p1Driven = driveAll p1 lent p1Asks (5 ∷ 6 ∷ []) (9 ∷ 8 ∷ [])
+
+-- two variables of two values; rows that the slice takes, but not those of their first step
+abbrev pub crowded : List ℕ
+crowded = headWord 2 ∷ sizeWord 2 ∷ sizeWord 2 ∷ bindingWord 0 0 ∷ costWord 3 ∷ bindingWord 0 1 ∷ bindingWord 1 0 ∷ costWord 1 ∷ []
+
+pub record Witnesses : Type 0 where
+  -- demand 3: the encoding is good; a pair is left then, and none after the calls
+  pub encodes : encodeCall p1 lent .answer ≡ good 2
+  pub left : nextPair (domainsOf p1) (tableRows (encodeCall p1 lent .table)) ≡ some (record { variable = 0; first = 0; second = 1 })
+  pub ends : nextPair (domainsOf p1) (tableRows (afterCalls (started p1 lent) p1Calls .table)) ≡ none
+  pub derives : afterCalls (started p1 lent) p1Calls .derivation ≡ stepWord 0 0 1 ∷ []
+  -- a run by each of its endings: done, paused, 12
+  pub done : runCall (encodeCall p1 lent .table) 5 (5 ∷ 6 ∷ []) .answer ≡ record { outcome = Outcome.Done; steps = 1; bound = 1 }
+  pub paused : runCall (encodeCall p1 lent .table) 5 [] .answer ≡ record { outcome = Outcome.Paused; steps = 0; bound = 0 }
+  pub full : runCall (encodeCall crowded lent .table) 5 (5 ∷ 6 ∷ []) .answer ≡ record { outcome = Outcome.Refused 12; steps = 0; bound = 0 }
+  -- a plan call by each of its numbers: written, 13, 10
+  pub planned : planCall (afterCalls (started p1 lent) p1Calls .table) (9 ∷ 8 ∷ []) ≡ record { number = 0; target = 1 ∷ 8 ∷ [] }
+  pub early : planCall (encodeCall p1 lent .table) (9 ∷ 8 ∷ []) ≡ record { number = 13; target = 9 ∷ 8 ∷ [] }
+  pub short : planCall (encodeCall p1 lent .table) [] ≡ record { number = 10; target = [] }
+  -- the claim of the plan and its cost is accepted, and no other cost
+  pub accepted : checkCall p1 (stepWord 0 0 1 ∷ []) (1 ∷ []) 1 lent .answer ≡ record { number = 0; steps = 1 }
+  pub refused : checkCall p1 (stepWord 0 0 1 ∷ []) (0 ∷ []) 3 lent .answer ≡ record { number = 7; steps = 1 }
+  -- the driver makes the step by its first word, leaves no pair, and writes the step word and the plan
+  pub driven : p1Driven .answer ≡ record { number = 0; steps = 1 }
+  pub drivenEnds : nextPair (domainsOf p1) (tableRows (p1Driven .table)) ≡ none
+  pub drivenWords : p1Driven .out ≡ stepWord 0 0 1 ∷ 6 ∷ []
+  pub drivenPlan : p1Driven .target ≡ 1 ∷ 8 ∷ []
