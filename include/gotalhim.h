@@ -39,7 +39,9 @@ extern "C" {
  *    2 size or coordinate word missing, of a wrong kind or out of range
  *    3 entry word of a wrong kind, unknown variable or value, variables not rising, no cost word at the end
  *    4 cost above 65,535
- *    5 the 4,097th cost word; in a sheet the costs of travel between neighbouring variables are counted first
+ *    5 the 4,097th cost word, if 4 does not apply to it; in a sheet the costs of travel between neighbouring variables
+ *      are counted first
+ *      (a set unnamed bit is 1, 2 or 3 by its place)
  *    6 a step word that names no permitted pair
  *    7 plan not exactly n bytes, a value out of range, or a cost that fails the claim
  *    8 variable not below n, position out of range, or plan not exactly n bytes or with a value out of range
@@ -98,7 +100,8 @@ uint32_t gotalhim_run(uint32_t *table, size_t table_length,
                       uint64_t *answer, size_t answer_length);
 
 /*
- * Rebuilds the plan of least cost from a table in which no pair is left.
+ * Rebuilds the plan from a table in which no pair is left. If the table comes from the encoding of an accepted instance
+ * by any list of step calls, runs and plan calls, this is a plan of least cost.
  * Tests: 9; 10 if the target is shorter than n bytes; 13.
  * Memory: the plan in front of the target, the rest kept.
  */
@@ -134,7 +137,8 @@ uint32_t gotalhim_drive(const uint32_t *instance, size_t instance_length,
 
 /*
  * Checks a derivation: encodes the instance in the work table, replays the step words, each any permitted pair on its
- * variable, and then requires that the claimed cost is the bound and is the plan's cost.
+ * variable, and then requires that the claimed cost is the bound and is the plan's cost. Number 0 means that the claimed
+ * cost is the least cost of the instance and that the plan has it, whoever made derivation, plan and claim.
  * Tests: 1 to 5 on the instance; 10 if the slice is shorter than n + 2 words; 12 for the encoding; for each step word
  * in turn 6, 11, 12; then 7.
  * Answer: the steps replayed, also where a step word or the claim is refused.

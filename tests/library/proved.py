@@ -91,20 +91,6 @@ class Planned(NamedTuple):
     target: list
 
 
-class Checked(NamedTuple):
-    number: int
-    answer: list        # the steps replayed
-    table: list
-
-
-class Driven(NamedTuple):
-    number: int
-    answer: list        # the steps made
-    table: list
-    derivation: list
-    target: list
-
-
 class Readout(NamedTuple):
     number: int
     answer: list        # the metres
@@ -133,19 +119,6 @@ def plan_call(table, target):
     number = call("gotalhim_plan", [source, lent])
     assert source.content() == list(table), "a plan call wrote to the table"
     return Planned(number, lent.content())
-
-
-def check_call(instance, derivation, plan, claimed, table, answer):
-    lent, fields = Slice(WORD, table), Slice(FIELD, answer)
-    number = call("gotalhim_check", [Slice(WORD, instance), Slice(WORD, derivation), Slice(BYTE, plan), FIELD(claimed),
-                                     lent, fields])
-    return Checked(number, fields.content(), lent.content())
-
-
-def drive_call(instance, table, calls, derivation, target, answer):
-    lent, words, plan, fields = Slice(WORD, table), Slice(WORD, derivation), Slice(BYTE, target), Slice(FIELD, answer)
-    number = call("gotalhim_drive", [Slice(WORD, instance), lent, Slice(WORD, calls), words, plan, fields])
-    return Driven(number, fields.content(), lent.content(), words.content(), plan.content())
 
 
 def readout_call(sheet, plan, variable, easting, northing, answer):

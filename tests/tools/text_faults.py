@@ -17,6 +17,8 @@ SPOT_FORM = "a spot is written as 'spot NUMBER at EASTING NORTHING'"
 COST_FORM = "a cost is written as 'cost AMOUNT', or 'cost AMOUNT at STATION/SPOT STATION/SPOT ..'"
 FORBIDDEN_FORM = "a forbidden spot is written as 'forbidden STATION/SPOT', each on a line of its own"
 
+BREAK = "a line ends with a line feed, or with a carriage return and a line feed; here another sign of a new line stands in it"
+
 # Six lines, on which the entries below rest.
 TWO = "station 0 gate\n spot 0 at 0 0\n\nstation 1\n spot 0 at 3.00 4.00\n spot 1 at 6.00 8.00\n"
 ONE = "station 0\nspot 0 at 0 0\n"
@@ -49,6 +51,13 @@ def line_cases():
         yield TWO + wrong, 7, COST_FORM
     for wrong in ["forbidden", "forbidden 0/0 1/1", "forbidden at 1/0"]:
         yield TWO + wrong, 7, FORBIDDEN_FORM
+
+
+def break_cases():
+    """Signs of a new line within a line, in a comment and before it."""
+    for sign in "\r\v\f\x1c\x85\u2028\u2029":
+        yield TWO + f"cost 1 at 1/1 # wheel track{sign}cost 9 at 1/0\n", 7, BREAK
+        yield TWO + f"cost 1 at 1/1{sign}cost 9 at 1/0\n", 7, BREAK
 
 
 def number_cases():
@@ -105,7 +114,7 @@ def entry_cases():
 
 
 def run(checks):
-    for cases in (line_cases, number_cases, order_cases, entry_cases):
+    for cases in (line_cases, break_cases, number_cases, order_cases, entry_cases):
         for text, line, reason in cases():
             checks.refuses("words", text.encode(), f"line {line}: {reason}")
     checks.same("spoiled texts that the planner refuses", refused_after_all(random.Random("spoiled texts")), [])

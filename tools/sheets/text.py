@@ -24,6 +24,9 @@ NUMBER = re.compile("[0-9]{1,9}")
 METRES = re.compile(r"(-?)([0-9]{1,9})(?:\.([0-9]{1,2}))?")
 BINDING = re.compile("([0-9]{1,9})/([0-9]{1,9})")
 
+# Characters at which an editor may show a new line though the sheet has none: what follows would be lost in a comment.
+BREAK = re.compile("[\r\v\f\x1c-\x1e\x85\u2028\u2029]")
+
 # Words of a sheet: the head, each station, each spot. An entry has one for each binding and one for its cost.
 HEAD_WORDS = STATION_WORDS = COST_WORDS = 1
 SPOT_WORDS = 2
@@ -74,6 +77,9 @@ class Draft:
 
     def take_line(self, line):
         self.line += 1
+        line = line[:-1] if line.endswith("\r") else line
+        if BREAK.search(line):
+            self.refuse("a line ends with a line feed, or with a carriage return and a line feed; here another sign of a new line stands in it")
         parts = line.split("#")[0].split()
         if not parts:
             return
