@@ -10,7 +10,7 @@ import driver
 import reference
 from proved import BYTE, FIELD, SIZE, WORD, Slice, call
 from reference import inputs, words
-from reference.answers import BAD_CLAIM, BAD_TABLE, GOOD, Refused
+from reference.answers import BAD_TABLE, GOOD
 from reference.steps import DONE, PAUSED, REFUSED
 
 OUTCOMES = {DONE: 0, PAUSED: 1, REFUSED: 2}
@@ -70,17 +70,6 @@ def row_total(table):
     return words.payload_of(table[words.payload_of(table[0]) + 1])
 
 
-def reference_cost(instance, plan):
-    """The cost call, which the reference has only in parts."""
-    try:
-        sizes, entries = inputs.read_instance(instance)
-    except Refused as refusal:
-        return refusal.number, 0
-    if not inputs.in_range(sizes, plan):
-        return BAD_CLAIM, 0
-    return GOOD, inputs.cost_of(entries, plan)
-
-
 class Both:
     """Makes the calls, counts them, and hands back the reference's answers."""
 
@@ -116,7 +105,7 @@ class Both:
         return made
 
     def cost(self, instance, plan):
-        number, paid = reference_cost(instance, plan)
+        number, paid = inputs.cost_call(instance, plan)
         self.agree("cost", [(WORD, instance), (BYTE, plan)], Answer(number, [paid], [instance, plan]))
         return number, paid
 

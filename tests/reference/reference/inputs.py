@@ -3,8 +3,8 @@
 from typing import NamedTuple
 
 from . import words
-from .answers import (BAD_ENTRY, BAD_HEAD, BAD_VARIABLE, COST_TOO_HIGH, GOOD, TARGET_TOO_SHORT,
-                      TOO_MANY_ENTRIES, Refused, require)
+from .answers import (BAD_CLAIM, BAD_ENTRY, BAD_HEAD, BAD_VARIABLE, COST_TOO_HIGH, GOOD,
+                      TARGET_TOO_SHORT, TOO_MANY_ENTRIES, Refused, require)
 from .distance import distance
 from .limits import MAX_COORDINATE, MAX_COST, MAX_ENTRIES, MAX_SIZE, MAX_VARIABLES
 
@@ -153,6 +153,17 @@ def cost_of(entries, assignment):
 def in_range(sizes, assignment):
     return (len(assignment) == len(sizes)
             and all(value < size for value, size in zip(assignment, sizes)))
+
+
+def cost_call(source, assignment):
+    """The number and the cost: 1 to 5 for the instance, then 7 for what is no assignment of it."""
+    try:
+        sizes, entries = read_instance(source)
+    except Refused as refusal:
+        return refusal.number, 0
+    if not in_range(sizes, assignment):
+        return BAD_CLAIM, 0
+    return GOOD, cost_of(entries, assignment)
 
 
 def entry_words(entries):
