@@ -1,12 +1,15 @@
--- `main` lends so many bytes of the text as `plan_text` says, which are no more than there are.
+-- `main` lends so many bytes as `read_input` has read, and so many of the text as `plan_text` says: in each case no more than there are.
 use mathlib.Core.Path.{sym}
 use lib.Seq.{length-take-le}
 use borrow.Author.Needs.{needs}
 use Rattle.planner.proofs.main.Statement.{statement}
 use Rattle.planner.proofs.main.Tie as tie
 
-slice-aggregate-write-all : tie.Need-slice-aggregate-write-all
-slice-aggregate-write-all c = sym (length-take-le _ _ (c .before .before .plan-text .ensures .1))
+slice-aggregate-plan-text : tie.Need-slice-aggregate-plan-text
+slice-aggregate-plan-text c = sym (length-take-le _ _ (c .before .before .before .read-input .ensures))
+
+slice-aggregate-write-all-2 : tie.Need-slice-aggregate-write-all-2
+slice-aggregate-write-all-2 c = sym (length-take-le _ _ (c .before .before .plan-text .ensures .1))
 
 pub main-spec : {M : Type 1} → statement M
 main-spec =
@@ -15,9 +18,15 @@ main-spec =
     (λ c. search needs)
     (λ c κs. search needs)
     (λ c. search needs)
+    (λ c κs. search needs)
+    (λ c. search needs)
+    (λ c. search needs)
+    slice-aggregate-plan-text
+    (λ c κs. search needs)
+    (λ c. search needs)
+    slice-aggregate-write-all-2
+    (λ c κs. search needs)
     (λ c. search needs)
     (λ c κs. search needs)
     (λ c. search needs)
-    slice-aggregate-write-all
-    (λ c κs. search needs)
     (λ c. search needs))
