@@ -59,7 +59,7 @@ scan-view sizes from count (Northing p) = three
 scan-view sizes from count (Count k) = three
 scan-view sizes from count Unknown = three
 
-entries-small : (sizes : List ℕ) (from count : ℕ) (ws : List ℕ) → entriesFault sizes from count ws ≤ 5
+pub entries-small : (sizes : List ℕ) (from count : ℕ) (ws : List ℕ) → entriesFault sizes from count ws ≤ 5
 unfolding entriesFault resume
 entries-small sizes from count [] = go (eqb from 0)
   where
@@ -73,7 +73,7 @@ entries-small sizes from count (w ∷ ws) =
     go (goes f c) going ih = ih f c
     go (stops k) (stopping h) ih = h
 
-cond-small : (b : Bool) (m n : ℕ) → m ≤ 5 → n ≤ 5 → cond b m n ≤ 5
+pub cond-small : (b : Bool) (m n : ℕ) → m ≤ 5 → n ≤ 5 → cond b m n ≤ 5
 cond-small true m n h k = h
 cond-small false m n h k = k
 
