@@ -20,10 +20,11 @@ use Rattle.encoding.specs.Calls.{encodedRows, encodeCall}
 use Rattle.assignment.specs.Calls.{tableAssignment}
 use Rattle.checker.specs.Replay.{replay}
 use Rattle.checker.specs.Calls.{claimHolds, judged}
+use Rattle.checker.specs.Theorems.{Best}
 use Rattle.checker.proofs.Kept.{Coded, coded, coded-number, encoded-keeps}
 use Rattle.checker.proofs.Claims.{check-judged}
 use Rattle.calls.specs.Calls.{State, afterCalls, started}
-use Rattle.calls.specs.Demand.{room, Best}
+use Rattle.calls.specs.Demand.{room}
 use Rattle.calls.specs.Derivation.{DerivationAccepted, DrivenAccepted}
 use Rattle.calls.specs.Driver.{driveWords, callsAsked, DriveReturned, startOf, driveReturns, driveAll}
 use Rattle.calls.proofs.Reaching.{reaches-replayed}

@@ -17,6 +17,7 @@ use Rattle.encoding.specs.Calls.{encodedRows}
 use Rattle.stepping.specs.Step.{finished, refusing, stepping}
 use Rattle.resolution.specs.Run.{Ran, runRows}
 use Rattle.resolution.specs.Calls.{stepReturns, stepCall, runCall}
+use Rattle.resolution.proofs.Single.{no-step}
 use Rattle.checker.proofs.Kept.{Coded, coded, coded-table, encoded-keeps, keeps-holdable}
 use Rattle.checker.proofs.Replaying.{Left}
 use Rattle.calls.specs.Calls.{Call, stepAsked, runAsked, planAsked, State, wordsOfStep, afterCall, afterCalls, started}
@@ -24,7 +25,7 @@ use Rattle.calls.specs.Demand.{domainsOf, room, EncodesExactly}
 use Rattle.calls.proofs.Reaching.{Reaches, still, onward, reaches-append, reaches-left}
 use Rattle.checker.proofs.Holding.{Held, held}
 use Rattle.calls.proofs.Held.{held-rows, held-step, held-run}
-use Rattle.calls.proofs.Running.{Runs, run-runs, no-step, next-step}
+use Rattle.calls.proofs.Running.{Runs, run-runs, next-step}
 
 pub encodesExactly : EncodesExactly
 encodesExactly inst t e = coded-table inst t (coded inst t e)

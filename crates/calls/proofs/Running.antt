@@ -13,9 +13,10 @@ use Rattle.wcsp.specs.Row.{Row}
 use Rattle.wcsp.specs.Resolve.{Pair, nextPair, resolve}
 use Rattle.wcsp.proofs.NextPair.{next-permitted}
 use Rattle.input.specs.Instance.{instanceFault, sizesOf, padded}
-use Rattle.stepping.specs.Step.{Stepping, finished, refusing, stepping, pairWord}
+use Rattle.stepping.specs.Step.{Stepping, refusing, stepping, pairWord}
 use Rattle.resolution.specs.Step.{onPair, oneStep}
 use Rattle.resolution.specs.Run.{Ending, done, paused, stopped, Ran, after, atLimit, runRows}
+use Rattle.resolution.proofs.Single.{no-step}
 use Rattle.checker.proofs.Replaying.{Left, allowed-room}
 use Rattle.calls.proofs.Reaching.{Reaches, still, onward, next-left}
 
@@ -36,10 +37,6 @@ later : {ds : List ℕ} {cap k n : ℕ} {rs : List Row} {e : Ending} → Ends ds
 later (noneLeft x) = noneLeft x
 later (limitMet l pr x) = limitMet (ap suc l) pr x
 later (noRoom l pr x f) = noRoom (omega arith) pr x f
-
-pub no-step : (ds : List ℕ) (cap : ℕ) (rs : List Row) → nextPair ds rs ≡ none → oneStep ds cap rs ≡ finished
-unfolding oneStep onPair
-no-step ds cap rs e = rw e
 
 module _ (inst : List ℕ) (accepted : instanceFault inst ≡ 0) (cap : ℕ) where
   pub next-step : {rs : List Row} (pr : Pair) → Left inst cap rs → nextPair (padded (sizesOf inst)) rs ≡ some pr

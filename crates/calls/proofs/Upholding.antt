@@ -24,11 +24,12 @@ use Rattle.resolution.specs.declared.StepAnswer.the-variants.{Done}
 use Rattle.resolution.specs.Run.{Ending, done, paused, stopped}
 use Rattle.resolution.specs.Calls.{stepReturns, stepCall, outcomeOf, runCall}
 use Rattle.assignment.specs.Calls.{tableAssignment}
+use Rattle.checker.specs.Theorems.{Best}
 use Rattle.checker.proofs.Instances.{accepted-positive, accepted-formed}
 use Rattle.checker.proofs.Kept.{Coded, coded, twelve, keeps-cost, keeps-below}
 use Rattle.checker.proofs.Replaying.{Left}
 use Rattle.calls.specs.Calls.{Call, afterCalls, started}
-use Rattle.calls.specs.Demand.{domainsOf, room, RunEnds, Best, Upheld, Demand3}
+use Rattle.calls.specs.Demand.{domainsOf, room, RunEnds, Upheld, Demand3}
 use Rattle.calls.proofs.Reaching.{reaches-derives, reaches-steps, reaches-left}
 use Rattle.checker.proofs.Holding.{Held}
 use Rattle.calls.proofs.Held.{held-run, held-assignment, plan-short, plan-early, plan-written}

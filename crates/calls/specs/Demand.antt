@@ -9,21 +9,21 @@ use lib.ListN.{length, drop}
 use lib.Dec.{ltb}
 use Rattle.wcsp.specs.Clause.{InRange}
 use Rattle.wcsp.specs.Row.{Row, falsified, emptyWeight}
-use Rattle.wcsp.specs.Entry.{cost, LeastCost}
+use Rattle.wcsp.specs.Entry.{cost}
 use Rattle.wcsp.specs.Resolve.{Pair, nextPair, resolve}
 use Rattle.wcsp.specs.Bound.{stepBound}
 use Rattle.input.specs.Instance.{maxVariables, sizesOf, entriesOf, padded, paddedValues}
 use Rattle.table.specs.Layout.{tableWords, capacity}
 use Rattle.table.specs.Meaning.{tableRows}
 use Rattle.table.specs.Valid.{validTable}
-use Rattle.encoding.specs.Calls.{Returned, encodedRows, encodeCall}
+use Rattle.encoding.specs.Calls.{encodedRows, encodeCall}
 use Rattle.stepping.specs.Step.{refusing, stepping}
-use Rattle.resolution.specs.declared.StepAnswer.{StepAnswer}
 use Rattle.resolution.specs.declared.StepAnswer.the-variants.{Done}
 use Rattle.resolution.specs.declared.Outcome.{Outcome}
-use Rattle.resolution.specs.Calls.{StepReturned, stepReturns, stepCall, RunReturned, runCall}
-use Rattle.assignment.specs.Calls.{PlanReturned, tableAssignment, planCall}
-use Rattle.calls.specs.Calls.{Call, State, started, afterCalls, Derives}
+use Rattle.resolution.specs.Calls.{stepReturns, stepCall, runCall}
+use Rattle.assignment.specs.Calls.{tableAssignment, planCall}
+use Rattle.checker.specs.Theorems.{Best}
+use Rattle.calls.specs.Calls.{Call, started, afterCalls, Derives}
 
 -- the sizes of twelve variables, and how many rows the slice takes
 abbrev pub domainsOf : List ℕ → List ℕ
@@ -39,12 +39,6 @@ RunEnds inst t most steps rs Outcome.Done = nextPair (domainsOf inst) rs ≡ non
 RunEnds inst t most steps rs Outcome.Paused = (steps ≡ most) × ((pr : Pair) × (nextPair (domainsOf inst) rs ≡ some pr))
 RunEnds inst t most steps rs (Outcome.Refused k) =
     (k ≡ 12) × (steps < most) × ((pr : Pair) × (nextPair (domainsOf inst) rs ≡ some pr) × (room inst t < length (resolve (domainsOf inst) pr rs)))
-
--- once no pair is left: the rebuilt assignment has exactly the empty row's weight as cost, which is the least cost
-pub record Best (inst : List ℕ) (plan : List ℕ) (bound : ℕ) : Type 0 where
-  pub inRange : InRange (sizesOf inst) plan
-  pub attained : cost (entriesOf inst) plan ≡ bound
-  pub isLeast : LeastCost (sizesOf inst) (entriesOf inst) bound
 
 -- what holds of the table t′ and the derivation ws after a list of calls that began with the encoding of inst in t
 pub record Upheld (inst t t′ ws : List ℕ) : Type 0 where
@@ -78,7 +72,7 @@ pub record Upheld (inst t t′ ws : List ℕ) : Type 0 where
       → nextPair (domainsOf inst) (tableRows t′) ≡ some pr → planCall t′ target ≡ record { number = 13; target = target }
   pub planWritten : (target : List ℕ) → length (sizesOf inst) ≤ length target → nextPair (domainsOf inst) (tableRows t′) ≡ none
       → planCall t′ target ≡ record { number = 0; target = tableAssignment t′ ++ drop (length (sizesOf inst)) target }
-  -- once no pair is left, that assignment is the best
+  -- once no pair is left, that assignment has exactly the empty row's weight as cost, which is the least cost
   pub best : nextPair (domainsOf inst) (tableRows t′) ≡ none
       → Best inst (tableAssignment t′) (emptyWeight maxVariables (tableRows t′))
 

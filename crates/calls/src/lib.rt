@@ -1,7 +1,7 @@
 // The driver: makes the calls that a list of words asks for, one after the other, on a table that it encodes first. Demand 3 is its contract.
 ghost use mathlib.Core.Path.{_≡_};
 ghost use mathlib.Core.Bool.{cond};
-ghost use Prim.Native.Nat.{_≤_, min};
+ghost use Prim.Native.Nat.{_≤_};
 ghost use lib.ListN.{length, take, drop};
 ghost use lib.Dec.{eqb};
 ghost use Rattle.words.specs.Layout.{payloadOf};
@@ -15,12 +15,6 @@ use resolution::StepAnswer;
 pub struct Driven {
     pub number: u32,
     pub steps: usize,
-}
-
-fn lesser(a: usize, b: usize) -> usize
-    ensures { λ r. ⌜ r ≡ min a b ⌝ }
-{
-    if a < b { a } else { b }
 }
 
 // A step call, if there is a place for its word. The answer is how many step words there are then.
@@ -45,7 +39,7 @@ fn run_into(t: &mut [u32], out: &mut [u32], made: usize, w: u32) -> usize
     ensures { λ r. ⌜ Leaves (now (out .entry)) made (afterCall (stateIn (now (t .entry)) (now (out .entry)) made) (runAsked (limitOf w) (take (sliceOf w) (drop made (now (out .entry)))))) (now (t .exit)) (now (out .exit)) r ⌝ }
 {
     let p = words::payload(w);
-    let end = made + lesser((p % 16384) as usize, out.len() - made);
+    let end = made + resolution::lesser((p % 16384) as usize, out.len() - made);
     let ran = resolution::run(t, (p / 16384) as usize, &mut out[made..end]);
     made + ran.steps
 }
@@ -54,7 +48,7 @@ fn run_into(t: &mut [u32], out: &mut [u32], made: usize, w: u32) -> usize
 fn plan_into(t: &[u32], target: &mut [u8], w: u32)
     ensures { λ r. ⌜ now (target .exit) ≡ targetAfter (now (t .entry)) (now (target .entry)) (planAsked (take (payloadOf w) (now (target .entry)))) ⌝ }
 {
-    let end = lesser(words::payload(w) as usize, target.len());
+    let end = resolution::lesser(words::payload(w) as usize, target.len());
     assignment::plan(t, &mut target[..end]);
 }
 

@@ -19,7 +19,7 @@ use Rattle.table.proofs.Canonical.{writtenReadsBack}
 use Rattle.encoding.specs.Calls.{encodedRows, encodeCall}
 use Rattle.checker.specs.Replay.{Replayed, replay}
 use Rattle.checker.specs.Calls.{claimHolds, judged, checkCall}
-use Rattle.checker.specs.Theorems.{Accepted, AcceptedIsLeast, LeftConserves}
+use Rattle.checker.specs.Theorems.{Best, AcceptedIsLeast, LeftConserves}
 use Rattle.checker.proofs.Kept.{Coded, coded, encoded-keeps, keeps-cost, keeps-below, keeps-holdable}
 use Rattle.checker.proofs.Replaying.{Left, Ended, replay-ended}
 
@@ -60,13 +60,13 @@ replayed-ended inst t derivation c =
     (record { keeps = encoded-keeps inst (c .accepted); fits = c .fits })
 
 claim-accepted : (inst plan : List ℕ) (claimed cap : ℕ) (rs : List Row) → instanceFault inst ≡ 0 → Left inst cap rs
-    → Claim inst plan claimed rs → Accepted inst plan claimed
+    → Claim inst plan claimed rs → Best inst plan claimed
 claim-accepted inst plan claimed cap rs a l k =
     let r = in-range-of (sizesOf inst) plan (k .assigned) in
     record {
       inRange = r;
       attained = sym (k .costs);
-      least =
+      isLeast =
           record {
             assignment = plan;
             inRange = r;
@@ -83,7 +83,7 @@ acceptedIsLeast inst derivation plan claimed t e = coding (eqb (encodeCall inst 
     done = replayed inst t derivation
 
     judging : Coded inst t → (a b : Bool) → claimHolds inst plan claimed (done .rows) ≡ b → eqb (done .number) 0 ≡ a
-        → cond a (cond b 0 7) (done .number) ≡ 0 → Accepted inst plan claimed
+        → cond a (cond b 0 7) (done .number) ≡ 0 → Best inst plan claimed
     judging c true true f h n =
         claim-accepted inst plan claimed (capacity (length t) (length (sizesOf inst))) (done .rows) (c .accepted)
         (replayed-ended inst t derivation c .left) (claim inst plan claimed (done .rows) f)
@@ -93,7 +93,7 @@ acceptedIsLeast inst derivation plan claimed t e = coding (eqb (encodeCall inst 
     coding : (a : Bool) → eqb (encodeCall inst t .answer .number) 0 ≡ a
         → cond a (judged inst plan claimed (length t) done)
         (record { answer = record { number = encodeCall inst t .answer .number; steps = 0 }; table = t }) .answer .number
-        ≡ 0 → Accepted inst plan claimed
+        ≡ 0 → Best inst plan claimed
     coding true h n =
         judging (coded inst t (eqb-true (encodeCall inst t .answer .number) 0 h)) (eqb (done .number) 0)
         (claimHolds inst plan claimed (done .rows)) refl refl n

@@ -21,10 +21,10 @@ use Rattle.wcsp.proofs.Weights.{weightsWitnessed}
 use Rattle.wcsp.proofs.TooHeavy.{heavy, light}
 use Rattle.input.specs.Instance.{maxVariables, instanceFault, sizesOf, entriesOf, padded, paddedValues}
 use Rattle.input.specs.Calls.{refused, good}
+use Rattle.input.proofs.Validating.{padded-length}
 use Rattle.input.proofs.Padding.{in-range-padded, cost-padded}
 use Rattle.table.specs.Layout.{capacity, tableWords, tooHeavy}
 use Rattle.table.specs.Check.{Holdable}
-use Rattle.table.proofs.Twelve.{length-padded}
 use Rattle.encoding.specs.Calls.{Returned, encodedRows, encodeCall}
 use Rattle.checker.proofs.Instances.{accepted-some, accepted-few, accepted-sizes, accepted-positive, accepted-formed, accepted-costs}
 
@@ -122,7 +122,7 @@ module _ (inst : List ℕ) (accepted : instanceFault inst ≡ 0) where
       }
 
   pub twelve : length (padded (sizesOf inst)) ≡ 12
-  twelve = length-padded (sizesOf inst) (accepted-few inst accepted)
+  twelve = padded-length (sizesOf inst) (accepted-few inst accepted)
 
   module _ (rs : List Row) (k : Keeps inst rs) where
     pub step-keeps : (pr : Pair) → Permitted (padded (sizesOf inst)) rs pr → Keeps inst (resolve (padded (sizesOf inst)) pr rs)

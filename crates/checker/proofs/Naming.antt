@@ -12,7 +12,6 @@ use Rattle.wcsp.specs.Clause.{ValidClause}
 use Rattle.wcsp.specs.Row.{Row}
 use Rattle.wcsp.specs.Rule.{permitted}
 use Rattle.wcsp.specs.Resolve.{Pair, noRow, Permitted}
-use Rattle.wcsp.proofs.Validity.{valid-signs}
 use Rattle.words.specs.declared.Word.{Word}
 use Rattle.words.specs.declared.Word.the-variants.{Head, Size, Binding, Cost, Signs, Weight, Step, Easting, Northing, Count, Unknown}
 use Rattle.words.specs.Meaning.{wordOf}
@@ -21,11 +20,10 @@ use Rattle.clause.specs.Packed.{signsOf, Packed, FullSigns}
 use Rattle.input.proofs.Others.{placeOf}
 use Rattle.rows.specs.Raw.{rawAt, clauseIn}
 use Rattle.table.specs.declared.Shape.{Shape}
-use Rattle.table.specs.Meaning.{rowCount, tableRows, domains}
+use Rattle.table.specs.Meaning.{tableRows, domains}
 use Rattle.table.specs.Valid.{validTable}
 use Rattle.table.specs.Check.{shapeOf}
-use Rattle.table.specs.Raws.{rowOf}
-use Rattle.stepping.proofs.Surveying.{Ready, ready-shape, row-at}
+use Rattle.stepping.proofs.Surveying.{Ready, ready-shape, premise-signs, premise-valid}
 use Rattle.checker.specs.declared.Named.{Named}
 use Rattle.checker.specs.declared.Named.the-variants.{Pair as Of, Nothing}
 use Rattle.checker.specs.Replay.{permittedPair, namedPair}
@@ -113,17 +111,6 @@ module _ (t : List ℕ) (valid : validTable t ≡ true) {shape : Shape} (e : sha
     pub row-room : shape .variables + 2 + 5 * k + 5 ≤ length t
     row-room = omega (arith, ready .room)
 
-    -- x is the clause that was read at row k
-    module _ (x : Clause) (f : x ≡ clauseIn (rawAt t (shape .variables + 2 + 5 * k))) where
-      signs-read : signsOf x ≡ getD (tableRows t) k noRow .signs
-      unfolding rowOf
-      signs-read =
-          let here : k < rowCount t = omega (arith, ready .counted) in
-          ap signsOf f ∙ ap (λ n. signsOf (clauseIn (rawAt t (n + 2 + 5 * k)))) (ready .variables) ∙ sym (ap (λ r. r .signs) (row-at t k here))
-
-      clause-valid : ValidClause (domains t) (signsOf x)
-      clause-valid = rw signs-read (valid-signs k (ready .valid) (omega (arith, ready .long)))
-
 -- ---- the code's way through the tests
 
 module _ (t : List ℕ) (valid : validTable t ≡ true) {shape : Shape} (e : shape ≡ shapeOf t) (w : ℕ) {got : Word} (read : got ≡ wordOf w) where
@@ -160,8 +147,8 @@ module _ (t : List ℕ) (valid : validTable t ≡ true) {shape : Shape} (e : sha
           tested : b ≡ permitted (domains t) v (getD (tableRows t) i noRow .signs) (getD (tableRows t) j noRow .signs)
           tested =
               let h : i < shape .count = omega arith in
-              answer (domains t) (full-signs t valid e) (clause-valid t valid e i h x f) (clause-valid t valid e j inside y g)
-              ∙ ap₂ (permitted (domains t) v) (signs-read t valid e i h x f) (signs-read t valid e j inside y g)
+              answer (domains t) (full-signs t valid e) (premise-valid (ready t valid e) i h x f) (premise-valid (ready t valid e) j inside y g)
+              ∙ ap₂ (permitted (domains t) v) (premise-signs (ready t valid e) i h x f) (premise-signs (ready t valid e) j inside y g)
 
           pub names-forbidden : b ≡ false → Names t w Nothing
           names-forbidden h =

@@ -2,24 +2,24 @@
 use Prim.Native.Nat.{ℕ}
 use mathlib.Core.Path.{_≡_}
 use mathlib.Core.List.{List}
-use lib.ListN.{length}
 use Rattle.wcsp.specs.Clause.{InRange}
 use Rattle.wcsp.specs.Row.{falsified}
 use Rattle.wcsp.specs.Entry.{cost, LeastCost}
 use Rattle.input.specs.Instance.{sizesOf, entriesOf, paddedValues}
 use Rattle.table.specs.Meaning.{tableRows}
 use Rattle.encoding.specs.Calls.{encodeCall}
-use Rattle.checker.specs.Calls.{CheckReturned, checkCall}
+use Rattle.checker.specs.Calls.{checkCall}
 
--- a claim that the checker accepts: its cost is the least cost and its bytes are an assignment of that cost
-pub record Accepted (inst plan : List ℕ) (claimed : ℕ) : Type 0 where
+-- a best plan: it is an assignment, and its cost is the bound, which is the least cost
+pub record Best (inst plan : List ℕ) (bound : ℕ) : Type 0 where
   pub inRange : InRange (sizesOf inst) plan
-  pub attained : cost (entriesOf inst) plan ≡ claimed
-  pub least : LeastCost (sizesOf inst) (entriesOf inst) claimed
+  pub attained : cost (entriesOf inst) plan ≡ bound
+  pub isLeast : LeastCost (sizesOf inst) (entriesOf inst) bound
 
+-- a claim that the checker accepts: its bytes are a best plan, of the claimed cost
 abbrev pub AcceptedIsLeast : Type 0
 AcceptedIsLeast = (inst derivation plan : List ℕ) (claimed : ℕ) (t : List ℕ)
-    → checkCall inst derivation plan claimed t .answer .number ≡ 0 → Accepted inst plan claimed
+    → checkCall inst derivation plan claimed t .answer .number ≡ 0 → Best inst plan claimed
 
 -- accepted or stopped after the encoding: in the table left the falsified weight is the instance's cost, for every assignment
 abbrev pub LeftConserves : Type 0

@@ -4,10 +4,10 @@ use mathlib.Core.Path.{_≡_, sym, ap, _∙_}
 use mathlib.Core.List.{List, [], _∷_, _++_, append-assoc}
 use Rattle.wcsp.specs.Clause.{ValidClause, kept}
 use Rattle.wcsp.specs.Rule.{joined, metAt, excluding, conclusions}
+use Rattle.wcsp.proofs.Adding.{kept-append}
 use Rattle.clause.specs.declared.Clause.{Clause}
 use Rattle.clause.specs.Packed.{signsOf, Holds, FullSigns}
 use Rattle.conclusions.specs.Buffer.{clausesIn}
-use Rattle.conclusions.proofs.Filling.{kept-append}
 
 -- kept of the four groups, part by part
 kept-groups : (ds m j : List ℕ) (g h : List (List ℕ))

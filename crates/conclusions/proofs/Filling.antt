@@ -1,12 +1,12 @@
 -- The clauses of a buffer: clause m is the four blocks from 4m on, so a clause that is stored behind the first k leaves those alone.
--- And the clauses kept of a list, part by part.
+-- And a clause is stored if it is no tautology, and so kept.
 use Prim.Native.Nat.{ℕ, zero, suc, _+_, _*_, _<_, _≤_}
 use native.Mathlib.Nat.{le-of-suc-le-suc}
 use native.Mathlib.Omega.{arith}
 use native.Mathlib.Numerals.{add-one}
 use mathlib.Core.Path.{_≡_, refl, sym, ap, ap₂, _∙_}
 use mathlib.Core.Logic.{_≢_}
-use mathlib.Core.Bool.{Bool, true, false, cond}
+use mathlib.Core.Bool.{Bool, true, false}
 use mathlib.Core.List.{List, [], _∷_, _++_, append-nil}
 use lib.ListN.{length, getD, set, take, drop, replicate, length-set, length-replicate}
 use lib.Seq.{getD-drop, getD-set-same, getD-set-other, ext-getD}
@@ -151,15 +151,6 @@ packed-zeros = record { long = length-replicate {A = ℕ} 104 0; blocks = λ i. 
     zeros (suc n) (suc i) = zeros n i
 
 -- ---- keeping
-
-pub kept-append : (ds : List ℕ) (xs ys : List (List ℕ)) → kept ds (xs ++ ys) ≡ kept ds xs ++ kept ds ys
-unfolding kept
-kept-append ds [] ys = refl
-kept-append ds (x ∷ xs) ys = go (tautology ds x) (kept ds (xs ++ ys)) (kept ds xs) (kept ds ys) (kept-append ds xs ys)
-  where
-    go : (t : Bool) (r s l : List (List ℕ)) → r ≡ s ++ l → cond t r (x ∷ r) ≡ cond t s (x ∷ s) ++ l
-    go true r s l e = e
-    go false r s l e = ap (λ l. x ∷ l) e
 
 -- the answer r to the test for a tautology, for every list of sizes whose full signs are f
 abbrev Tested : Clause → Clause → Bool → Type 0

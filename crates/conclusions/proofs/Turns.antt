@@ -15,11 +15,11 @@ use Rattle.wcsp.specs.Sign.{full, complement}
 use Rattle.wcsp.specs.Clause.{ValidClause, nil, cons, kept}
 use Rattle.wcsp.specs.Rule.{joined, excluding}
 use Rattle.wcsp.proofs.Lists.{along-length}
+use Rattle.wcsp.proofs.Adding.{kept-append}
 use Rattle.clause.specs.declared.Clause.{Clause}
 use Rattle.clause.specs.Packed.{signsOf, Packed, Holds, FullSigns}
 use Rattle.clause.proofs.Signs12.{signsOf-length}
 use Rattle.conclusions.specs.Buffer.{clausesIn, PackedBuffer, Below}
-use Rattle.conclusions.proofs.Filling.{kept-append}
 use Rattle.conclusions.proofs.Excluding.{excludingFrom, from-start, from-end, from-pass, from-absent, from-present, joined-single}
 
 -- the buffer has n clauses and b variables are done, with the running clause r; k clauses were in the buffer B₀ before

@@ -19,10 +19,10 @@ use Rattle.words.specs.Meaning.{wordOf}
 use Rattle.input.specs.Instance.{goes, stops, maxCost, maxEntries, scanBinding, scanCost, scanWord, resume, entriesFault, instanceFault, entriesFrom, sizesOf, padded}
 use Rattle.input.specs.Phases.{goodSizes}
 use Rattle.input.specs.Accepted.{Each, nilEach, consEach}
-use Rattle.input.proofs.Validating.{headed-bounds, good-long, sizes-number, entries-are, instance-apart}
+use Rattle.input.proofs.Validating.{headed-bounds, padded-length, good-long, sizes-number, entries-are, instance-apart}
 use Rattle.input.proofs.Acceptance.{instance-headed, accepted}
 use Rattle.table.specs.Check.{Sizes, nilSizes, consSizes}
-use Rattle.table.proofs.Twelve.{sizes-at, sizes-padded, length-padded}
+use Rattle.table.proofs.Twelve.{sizes-at, sizes-padded}
 use Rattle.encoding.specs.Calls.{encodedRows}
 use Rattle.encoding.specs.Coding.{AllProper, costsIn, rowsTo}
 use Rattle.encoding.proofs.Coding.{coded-whole}
@@ -158,7 +158,7 @@ known ws e =
       costs = rw (costs-total [] (drop (n + 1) ws)) (omega (arith, total-bounded (entriesFrom [] (drop (n + 1) ws)) (made .costs), made .number));
       rows =
           ap (λ c. c .rows) (coded-whole (map full (padded (sizesOf ws))) (n + 1) ws)
-          ∙ coded-encoded (sizesOf ws) (padded (sizesOf ws)) (length-padded (sizesOf ws) few) (positive-of (sizes-padded s)) (padded-at (sizesOf ws)) (drop (n + 1) ws) (made .wellFormed)
+          ∙ coded-encoded (sizesOf ws) (padded (sizesOf ws)) (padded-length (sizesOf ws) few) (positive-of (sizes-padded s)) (padded-at (sizesOf ws)) (drop (n + 1) ws) (made .wellFormed)
           ∙ ap (λ q. encoded (padded (sizesOf ws)) q) (sym es);
     })
   where

@@ -24,8 +24,9 @@ use Rattle.resolution.specs.declared.RunAnswer.{RunAnswer}
 use Rattle.resolution.specs.Run.{runRows}
 use Rattle.resolution.specs.Calls.{runCall}
 use Rattle.assignment.specs.Calls.{tableAssignment, planCall}
+use Rattle.checker.specs.Theorems.{Best}
 use Rattle.calls.specs.Calls.{runAsked, afterCall, afterCalls}
-use Rattle.calls.specs.Demand.{domainsOf, RunEnds, Best, Upheld}
+use Rattle.calls.specs.Demand.{domainsOf, RunEnds, Upheld}
 use Rattle.calls.proofs.Upholding.{demand3}
 use Rattle.planning.specs.Printed.{tableBuffer, stepLimit}
 use Rattle.planning.specs.Theorems.{DoneIsBest, NoneBelow, Ran}

@@ -15,8 +15,9 @@ use Rattle.resolution.specs.declared.Outcome.{Outcome}
 use Rattle.resolution.specs.Calls.{runCall}
 use Rattle.assignment.specs.Calls.{planCall}
 use Rattle.text.specs.Text.{refusedLine, pausedLine, fullLine}
+use Rattle.checker.specs.Theorems.{Best}
 use Rattle.calls.specs.Calls.{Derives}
-use Rattle.calls.specs.Demand.{domainsOf, RunEnds, Best}
+use Rattle.calls.specs.Demand.{domainsOf, RunEnds}
 use Rattle.planning.specs.Printed.{bufferWords, tableBuffer, stepLimit, wordsIn, planText, printed}
 
 -- for every accepted sheet, every table that takes its encoding, every limit and slice: once the run is done, the bytes that the plan call

@@ -22,6 +22,7 @@ use Rattle.clause.specs.Packed.{signsOf, Packed, FullSigns}
 use Rattle.conclusions.specs.Buffer.{clausesIn, PackedBuffer, Below}
 use Rattle.conclusions.proofs.Filling.{clausesIn-length, clausesIn-same-at, read-holds}
 use Rattle.conclusions.proofs.Turns.{below-full}
+use Rattle.input.proofs.Validating.{padded-length}
 use Rattle.rows.specs.Raw.{rawAt, rawsIn, clauseIn, Laid}
 use Rattle.rows.proofs.Flat.{rawAt-drop}
 use Rattle.table.specs.declared.Shape.{Shape}
@@ -30,7 +31,7 @@ use Rattle.table.specs.Meaning.{variablesOf, rowCount, rowsFrom, tableSizes, ta
 use Rattle.table.specs.Valid.{validTable}
 use Rattle.table.specs.Check.{fullClause, shapeOf, capacityOf}
 use Rattle.table.specs.Raws.{rowOf, rawOf}
-use Rattle.table.proofs.Twelve.{Twelve, twelve-signsOf, length-padded, full-signs-padded, full-packed-padded}
+use Rattle.table.proofs.Twelve.{Twelve, twelve-signsOf, full-signs-padded, full-packed-padded}
 use Rattle.table.proofs.RawRows.{AllCarried, holdable-carried, rowFrom-raw}
 use Rattle.table.proofs.Canonical.{passed, validIsCanonical}
 use Rattle.table.proofs.Finishing.{valid-count, valid-room, valid-raws, valid-laid}
@@ -73,7 +74,7 @@ ready t v =
       light = sym (heavy-is (tableRows t)) ∙ h .light;
       fulls = full-signs-padded (tableSizes t) (h .few) (h .sizes);
       packed = full-packed-padded (tableSizes t) (h .few) (h .sizes);
-      twelve = length-padded (tableSizes t) (h .few);
+      twelve = padded-length (tableSizes t) (h .few);
       raws = valid-raws t v;
       long = valid-count t v;
       room = valid-room t v;
@@ -127,25 +128,26 @@ bounds t valid shape e v i j p =
 
 -- ---- the premises
 
-module _ (t : List ℕ) (valid : validTable t ≡ true) where
-  premise-signs : (k : ℕ) → k < rowCount t → (x : Clause) → x ≡ clauseIn (rawAt t (variablesOf t + 2 + 5 * k)) → signsOf x ≡ getD (tableRows t) k noRow .signs
+-- x is the clause that was read at row k
+module _ {t : List ℕ} {n count : ℕ} (r : Ready t n count) (k : ℕ) (h : k < count) (x : Clause) (e : x ≡ clauseIn (rawAt t (n + 2 + 5 * k))) where
+  pub premise-signs : signsOf x ≡ getD (tableRows t) k noRow .signs
   unfolding rowOf
-  premise-signs k h x e = ap signsOf e ∙ sym (ap (λ r. r .signs) (row-at t k h))
+  premise-signs =
+      let here : k < rowCount t = omega (arith, r .counted) in
+      ap signsOf e ∙ ap (λ m. signsOf (clauseIn (rawAt t (m + 2 + 5 * k)))) (r .variables) ∙ sym (ap (λ q. q .signs) (row-at t k here))
 
+  pub premise-valid : ValidClause (domains t) (signsOf x)
+  premise-valid = rw premise-signs (valid-signs k (r .valid) (omega (arith, r .long)))
+
+module _ (t : List ℕ) (valid : validTable t ≡ true) where
   premise-weight : (k : ℕ) → k < rowCount t → (w : ℕ) → w ≡ rawAt t (variablesOf t + 2 + 5 * k) .w % 268435456 → w ≡ getD (tableRows t) k noRow .weight
   unfolding rowOf
   premise-weight k h w e = e ∙ sym (ap (λ r. r .weight) (row-at t k h))
 
-  premise-valid : (k : ℕ) → k < rowCount t → (x : Clause) → x ≡ clauseIn (rawAt t (variablesOf t + 2 + 5 * k)) → ValidClause (domains t) (signsOf x)
-  premise-valid k h x e =
-      let r = ready t valid in
-      let n = r .long in
-      rw (premise-signs k h x e) (valid-signs k (r .valid) (omega arith))
-
   pub premise-below : (shape : Shape) → shape ≡ shapeOf t → (k : ℕ) → k < shape .count → (x : Clause)
       → x ≡ clauseIn (rawAt t (shape .variables + 2 + 5 * k)) → Below x (shape .fulls)
   premise-below shape e =
-      rw e (λ k h x f. below-full x (fullClause (domains t)) (domains t) (ready t valid .fulls) (premise-valid k h x f))
+      rw e (λ k h x f. below-full x (fullClause (domains t)) (domains t) (ready t valid .fulls) (premise-valid (ready t valid) k h x f))
 
   pub full-packed : (shape : Shape) → shape ≡ shapeOf t → Packed (shape .fulls)
   full-packed shape e = rw e (ready t valid .packed)
@@ -196,12 +198,12 @@ module _ (t : List ℕ) (valid : validTable t ≡ true) (v i j : ℕ) (p : Permi
       let l = p .inTable in
       let hi : i < rowCount t = omega arith in
       let hj : j < rowCount t = omega arith in
-      let sx = premise-signs t valid i hi x ex in
-      let sy = premise-signs t valid j hj y ey in
+      let sx = premise-signs r i hi x ex in
+      let sy = premise-signs r j hj y ey in
       let fi = premise-weight t valid i hi first f in
       let si = premise-weight t valid j hj second s in
       let clauses : cs ≡ kept ds (conclusionsOf ds pr rs)
-      = con ds (r .fulls) (premise-valid t valid i hi x ex) (premise-valid t valid j hj y ey) ∙ ap₂ (λ a b. kept ds (conclusions ds v a b)) sx sy in
+      = con ds (r .fulls) (premise-valid r i hi x ex) (premise-valid r j hj y ey) ∙ ap₂ (λ a b. kept ds (conclusions ds v a b)) sx sy in
       let weight : moved ≡ movedWeight pr rs = m ∙ ap₂ min fi si in
       let long = clausesIn-length kept′ buffer in
       let whole : take kept′ cs ≡ cs = take-all kept′ cs (omega arith) in

@@ -14,6 +14,7 @@ use Rattle.wcsp.proofs.Lists.{and-left, and-right}
 use Rattle.words.specs.Layout.{payloadOf, headWord, sizeWord, countWord}
 use Rattle.words.specs.Meaning.{wordOf}
 use Rattle.input.specs.Instance.{variablesIn, padded}
+use Rattle.input.proofs.Validating.{padded-length}
 use Rattle.rows.specs.Raw.{Raw, flat, rawsFrom}
 use Rattle.rows.proofs.Flat.{length-flat, flat-split, rawsFrom-flat}
 use Rattle.table.specs.Layout.{capacity, rowsWords, tableWords}
@@ -21,7 +22,6 @@ use Rattle.table.specs.Meaning.{variablesOf, tableSizes, domains, rowCou
 use Rattle.table.specs.Valid.{isCount, validSizes, validRows, distinctRows, allZero, validTable}
 use Rattle.table.specs.Check.{Holdable, ValidIsCanonical, WrittenReadsBack}
 use Rattle.table.specs.Raws.{rowOf, rawOf}
-use Rattle.table.proofs.Twelve.{length-padded}
 use Rattle.table.proofs.RawRows.{rowsFrom-raws, length-rowsFrom, rowsWords-flat, rows-raws, carried-rowsFrom, carried-light, holdable-carried}
 use Rattle.table.proofs.WordTests.{count-made, count-passes, head-made, head-reads}
 use Rattle.table.proofs.ValidParts.{SizesMade, sizes-made, sizes-pass, payloads-sizes, rows-made, rows-valid, rows-pass, distinct-pass, zeros-made, zeros-pass}
@@ -208,7 +208,7 @@ module _ (t : List ℕ) (p : Passed t) where
         sizes = made .sizes;
         room = rw e (p .room);
         fits = rw (e, f) (p .fits);
-        valid = rows-valid (domains t) (rowCount t) (drop (variablesOf t + 2) t) (length-padded (tableSizes t) few) (p .rows) (p .distinct);
+        valid = rows-valid (domains t) (rowCount t) (drop (variablesOf t + 2) t) (padded-length (tableSizes t) few) (p .rows) (p .distinct);
         light = carried-light (carried-rowsFrom (rowCount t) (drop (variablesOf t + 2) t));
       }
 

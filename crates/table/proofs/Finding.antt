@@ -2,61 +2,29 @@
 use Prim.Native.Nat.{ℕ, zero, suc, _+_, _<_}
 use native.Mathlib.Nat.{le-of-suc-le-suc}
 use native.Mathlib.Omega.{arith}
-use mathlib.Core.Path.{_≡_, refl, sym, ap, _∙_}
-use mathlib.Core.Bool.{Bool, true, false, _&&_, cond}
+use mathlib.Core.Path.{_≡_, refl, ap, _∙_}
+use mathlib.Core.Bool.{Bool, true, false, cond}
 use mathlib.Core.List.{List, _∷_, map}
 use lib.ListN.{length, getD}
-use lib.Dec.{eqb}
-use borrow.Author.Tests.{eqb-true, eq-eqb}
 use Rattle.wcsp.specs.Clause.{same}
 use Rattle.wcsp.specs.Row.{Row, Absent, nilAbsent, consAbsent}
 use Rattle.wcsp.specs.Resolve.{noRow}
-use Rattle.wcsp.proofs.Lists.{and-left, and-right}
-use Rattle.words.specs.Layout.{signsWord}
 use Rattle.clause.specs.declared.Clause.{Clause}
 use Rattle.clause.specs.Packed.{signsOf}
-use Rattle.clause.proofs.Signs12.{same-clause, clause-same}
 use Rattle.rows.specs.declared.Found.{Found}
 use Rattle.rows.specs.declared.Found.the-variants.{At, Missing}
 use Rattle.rows.specs.Raw.{rawRow, sameSigns, findFrom}
+use Rattle.rows.proofs.RowWords.{sameSigns-rows}
 use Rattle.table.specs.Check.{clauseFrom}
 use Rattle.table.specs.Raws.{rawOf}
 use Rattle.table.proofs.Twelve.{Twelve, signs-clauseFrom}
 use Rattle.table.proofs.RawRows.{AllCarried, nilCarried, consCarried}
-use Rattle.table.proofs.WordTests.{bool-same}
 
 -- ---- sign words and signs
 
--- clauses with the same sign words are the same
-clauses-words : (x y : Clause) (u w : ℕ) → sameSigns (rawRow x u) (rawRow y w) ≡ true → x ≡ y
-unfolding sameSigns
-clauses-words x y u w e =
-    let a = eqb (signsWord 0 (x .a)) (signsWord 0 (y .a)) in
-    let b = eqb (signsWord 1 (x .b)) (signsWord 1 (y .b)) in
-    let c = eqb (signsWord 2 (x .c)) (signsWord 2 (y .c)) in
-    let d = eqb (signsWord 3 (x .d)) (signsWord 3 (y .d)) in
-    let e2 = and-left (a && b && c) d e in
-    let e1 = and-left (a && b) c e2 in
-    let p : x .a ≡ y .a = omega (arith, eqb-true (signsWord 0 (x .a)) (signsWord 0 (y .a)) (and-left a b e1)) in
-    let q : x .b ≡ y .b = omega (arith, eqb-true (signsWord 1 (x .b)) (signsWord 1 (y .b)) (and-right a b e1)) in
-    let r : x .c ≡ y .c = omega (arith, eqb-true (signsWord 2 (x .c)) (signsWord 2 (y .c)) (and-right (a && b) c e2)) in
-    let s : x .d ≡ y .d = omega (arith, eqb-true (signsWord 3 (x .d)) (signsWord 3 (y .d)) (and-right (a && b && c) d e)) in
-    λ i. record { a = p i; b = q i; c = r i; d = s i }
-
-words-same : (x : Clause) (u w : ℕ) → sameSigns (rawRow x u) (rawRow x w) ≡ true
-unfolding sameSigns
-words-same x u w =
-    rw (eq-eqb (signsWord 0 (x .a)) (signsWord 0 (x .a)) refl, eq-eqb (signsWord 1 (x .b)) (signsWord 1 (x .b)) refl, eq-eqb (signsWord 2 (x .c)) (signsWord 2 (x .c)) refl, eq-eqb (signsWord 3 (x .d)) (signsWord 3 (x .d)) refl)
-
-pub words-signs : (x y : Clause) (u w : ℕ) → sameSigns (rawRow x u) (rawRow y w) ≡ same (signsOf x) (signsOf y)
-words-signs x y u w =
-    bool-same (sameSigns (rawRow x u) (rawRow y w)) (same (signsOf x) (signsOf y))
-    (λ e. clause-same x y (clauses-words x y u w e))
-    (λ e. ap (λ z. sameSigns (rawRow x u) (rawRow z w)) (sym (same-clause x y e)) ∙ words-same x u w)
-
 pub row-words : (r : Row) (x : Clause) (w : ℕ) → Twelve (r .signs) → sameSigns (rawOf r) (rawRow x w) ≡ same (r .signs) (signsOf x)
 row-words r x w t =
-    words-signs (clauseFrom (r .signs)) x (r .weight) w ∙ ap (λ c. same c (signsOf x)) (signs-clauseFrom (r .signs) t)
+    sameSigns-rows (clauseFrom (r .signs)) x (r .weight) w ∙ ap (λ c. same c (signsOf x)) (signs-clauseFrom (r .signs) t)
 
 -- ---- what is found
 

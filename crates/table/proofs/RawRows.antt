@@ -1,5 +1,5 @@
 -- Rows and raw rows give each other: what is read from words is what the raw rows there say, and what is written is the raw rows' words.
-use Prim.Native.Nat.{ℕ, zero, suc, _+_, _%_, _<_, _≤_}
+use Prim.Native.Nat.{ℕ, zero, suc, _+_, _<_, _≤_}
 use native.Mathlib.Omega.{arith}
 use mathlib.Core.Path.{_≡_, refl, ap, ap₂, _∙_}
 use mathlib.Core.Bool.{false}
@@ -10,15 +10,17 @@ use lib.Dec.{ltb}
 use borrow.Author.Tests.{ltb-false, le-ltb}
 use Rattle.wcsp.specs.Row.{Row, ValidRows, nilRows, consRows}
 use Rattle.wcsp.proofs.Lists.{or-left, or-right}
-use Rattle.words.specs.Layout.{payloadOf, signsWord, weightWord}
+use Rattle.words.specs.Layout.{payloadOf, weightWord}
 use Rattle.clause.specs.declared.Clause.{Clause}
 use Rattle.clause.specs.Packed.{signsOf, Packed}
+use Rattle.input.proofs.Validating.{padded-length}
 use Rattle.rows.specs.Raw.{Raw, flat, rawAt, rawsFrom, rawRow, clauseIn}
+use Rattle.rows.proofs.RowWords.{clauseIn-rawRow}
 use Rattle.table.specs.Layout.{rowWords, rowsWords, tooHeavy}
 use Rattle.table.specs.Meaning.{rowFrom, rowsFrom}
 use Rattle.table.specs.Check.{clauseFrom, Sizes, Holdable}
 use Rattle.table.specs.Raws.{rowOf, rawOf}
-use Rattle.table.proofs.Twelve.{Twelve, twelve-signsOf, signs-clauseFrom, packed-clauseFrom, length-padded, sizes-padded, twelve-valid}
+use Rattle.table.proofs.Twelve.{Twelve, twelve-signsOf, signs-clauseFrom, packed-clauseFrom, sizes-padded, twelve-valid}
 
 -- ---- reading
 
@@ -60,18 +62,6 @@ rowsWords-flat (r ∷ rs) = ap (λ ws. rowWords r ++ ws) (rowsWords-flat rs)
 
 pub packed-clauseIn : (r : Raw) → Packed (clauseIn r)
 packed-clauseIn r = record { a = omega arith; b = omega arith; c = omega arith; d = omega arith }
-
-low-signs : (k x : ℕ) → x < 16777216 → signsWord k x % 16777216 ≡ x
-low-signs k x h = omega arith
-
-pub clauseIn-rawRow : (x : Clause) (w : ℕ) → Packed x → clauseIn (rawRow x w) ≡ x
-clauseIn-rawRow x w p =
-    λ i. record {
-      a = low-signs 0 (x .a) (p .a) i;
-      b = low-signs 1 (x .b) (p .b) i;
-      c = low-signs 2 (x .c) (p .c) i;
-      d = low-signs 3 (x .d) (p .d) i;
-    }
 
 pub payload-weight : (w : ℕ) → w < 268435456 → payloadOf (weightWord w) ≡ w
 payload-weight w h = omega arith
@@ -129,4 +119,4 @@ carried-light (consCarried {r = r} h t) =
     rw (le-ltb 268435455 (r .weight) l) (carried-light t)
 
 pub holdable-carried : {len : ℕ} {ds : List ℕ} {rs : List Row} → Holdable len ds rs → AllCarried rs
-holdable-carried {ds = ds} h = carried-valid (length-padded ds (h .few)) (sizes-padded (h .sizes)) (h .valid) (h .light)
+holdable-carried {ds = ds} h = carried-valid (padded-length ds (h .few)) (sizes-padded (h .sizes)) (h .valid) (h .light)

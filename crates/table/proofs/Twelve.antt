@@ -4,7 +4,7 @@ use native.Mathlib.Omega.{arith}
 use mathlib.Core.Path.{_≡_, refl, sym, ap, _∙_}
 use mathlib.Core.List.{List, [], _∷_, _++_, map}
 use mathlib.Core.Bool.{Bool, true, false}
-use lib.ListN.{length, getD, drop, replicate, length-append, length-replicate, length-map, drop-of-length-le, List·getD-map, List·getD-eq-default}
+use lib.ListN.{length, getD, drop, replicate, length-map, drop-of-length-le, List·getD-map, List·getD-eq-default}
 use lib.Seq.{drop-cons}
 use lib.Dec.{ltb}
 use borrow.Author.Tests.{ltb-true, ltb-false}
@@ -18,6 +18,7 @@ use Rattle.clause.specs.declared.Clause.{Clause}
 use Rattle.clause.specs.Packed.{signsOf, Packed, FullSigns}
 use Rattle.clause.proofs.Signs12.{signsOf-length, sign-small}
 use Rattle.input.specs.Instance.{padded}
+use Rattle.input.proofs.Validating.{padded-length}
 use Rattle.table.specs.Layout.{blockAt}
 use Rattle.table.specs.Check.{clauseFrom, fullClause, Sizes, nilSizes, consSizes}
 
@@ -86,10 +87,6 @@ pub sizes-padded : {ds : List ℕ} → Sizes ds → Sizes (padded ds)
 unfolding padded
 sizes-padded {ds} s = sizes-ones (12 - length ds) s
 
-pub length-padded : (ds : List ℕ) → length ds ≤ 12 → length (padded ds) ≡ 12
-unfolding padded
-length-padded ds h = simp (length-append, length-replicate) (omega arith)
-
 pub twelve-full : (ds : List ℕ) → length ds ≡ 12 → Sizes ds → Twelve (map full ds)
 unfolding full
 twelve-full ds h s =
@@ -106,10 +103,10 @@ full-packed ds h s = packed-clauseFrom (map full ds) (twelve-full ds h s)
 
 -- the same for the sizes of a table
 pub full-signs-padded : (ds : List ℕ) → length ds ≤ 12 → Sizes ds → FullSigns (fullClause (padded ds)) (padded ds)
-full-signs-padded ds h s = full-signs (padded ds) (length-padded ds h) (sizes-padded s)
+full-signs-padded ds h s = full-signs (padded ds) (padded-length ds h) (sizes-padded s)
 
 pub full-packed-padded : (ds : List ℕ) → length ds ≤ 12 → Sizes ds → Packed (fullClause (padded ds))
-full-packed-padded ds h s = full-packed (padded ds) (length-padded ds h) (sizes-padded s)
+full-packed-padded ds h s = full-packed (padded ds) (padded-length ds h) (sizes-padded s)
 
 -- ---- valid clauses
 

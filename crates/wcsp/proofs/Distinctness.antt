@@ -69,11 +69,11 @@ different S T n =
     }
 
 -- the signs clash at a variable of d values
-abbrev clashAt : ℕ → ℕ → ℕ → Bool
+abbrev pub clashAt : ℕ → ℕ → ℕ → Bool
 clashAt d S T = present S && present T && eqb (bitOr S T) (full d)
 
 -- with no clash the union is not full
-union-below : (d S T : ℕ) → S < full d → T < full d → clashAt d S T ≡ false → bitOr S T < full d
+pub union-below : (d S T : ℕ) → S < full d → T < full d → clashAt d S T ≡ false → bitOr S T < full d
 unfolding present
 union-below d S T hs ht n = go (eqb S 0) (eqb T 0) refl refl n
   where

@@ -2,16 +2,14 @@
 -- neither lies in the other, and a valid union behind it. From that: the meet is valid and of a lower grade than either clause, meet and
 -- union together are of a lower grade than both, and the clauses that exclude a literal are of their own clause's grade.
 use Prim.Native.Nat.{ℕ, zero, suc, _+_, _<_}
-use mathlib.Core.Path.{_≡_, refl, sym, _∙_}
-use mathlib.Core.Bool.{Bool, true, false, not, _&&_, true≢false}
+use mathlib.Core.Path.{_≡_, sym, _∙_}
+use mathlib.Core.Bool.{true, false, not}
 use mathlib.Core.List.{List, [], _∷_, map}
-use mathlib.Core.Logic.{_≢_}
 use native.Mathlib.Omega.{arith}
 use lib.ListN.{length}
-use lib.Bits.{bitAnd, bitOr, and-le-l, and-comm, or-zero-r}
+use lib.Bits.{bitAnd, bitOr, and-le-l, and-comm}
 use lib.Count.{ones}
-use lib.Dec.{eqb}
-use borrow.Author.Tests.{eqb-true, eqb-false, not-true}
+use borrow.Author.Tests.{not-true}
 use Rattle.wcsp.specs.Sign.{full, present}
 use Rattle.wcsp.specs.Clause.{ValidClause, nil, cons, bucket}
 use Rattle.wcsp.specs.Rule.{joined, metAt, excluding, clashing, nested, permitted}
@@ -19,7 +17,7 @@ use Rattle.wcsp.specs.Bound.{grade}
 use Rattle.wcsp.proofs.Signs.{or-le-full}
 use Rattle.wcsp.proofs.Lists.{and-left, and-right, or-left, or-right}
 use Rattle.wcsp.proofs.Buckets.{bucket-absent, bucket-above}
-use Rattle.wcsp.proofs.Distinctness.{different}
+use Rattle.wcsp.proofs.Distinctness.{different, clashAt, union-below}
 use Rattle.wcsp.proofs.Validity.{Each, nilEach, consEach, each-map}
 use Rattle.wcsp.proofs.Grades.{gain-less, gain-concave, ones-or-and, ones-meet-less, ones-below, grade-present, grade-cons-le, grade-le}
 
@@ -28,31 +26,11 @@ pub data Resolvable : List ℕ → ℕ → List ℕ → List ℕ → Type 0 wher
       → Resolvable (d ∷ ds) zero (S ∷ x) (T ∷ y)
   later : {d s : ℕ} {ds x y : List ℕ} → 0 < full d → Resolvable ds s x y → Resolvable (d ∷ ds) (suc s) (zero ∷ x) (zero ∷ y)
 
--- a union is full only if both signs are present and clash
-union-below : (d S T : ℕ) → S < full d → T < full d → (present S && present T && eqb (bitOr S T) (full d)) ≡ false → bitOr S T < full d
-unfolding present
-union-below d S T h k e = first (eqb S 0) refl
-  where
-    third : (c : Bool) → eqb (bitOr S T) (full d) ≡ c → c ≡ false → bitOr S T < full d
-    third true q f = absurd (true≢false f)
-    third false q f =
-        let n : bitOr S T ≢ full d = eqb-false (bitOr S T) (full d) q in
-        omega (arith, or-le-full d S T (omega arith) (omega arith))
-
-    second : (b : Bool) → eqb T 0 ≡ b → eqb S 0 ≡ false → bitOr S T < full d
-    second true q f = rw (eqb-true T 0 q, or-zero-r S) h
-    second false q f = third (eqb (bitOr S T) (full d)) refl (rw (f, q) at e)
-
-    first : (a : Bool) → eqb S 0 ≡ a → bitOr S T < full d
-    first true q = rw (eqb-true S 0 q) k
-    first false q = second (eqb T 0) refl q
-
 pub joined-valid : {ds x y : List ℕ} → ValidClause ds x → ValidClause ds y → clashing ds (length ds) x y ≡ false → ValidClause ds (joined x y)
 unfolding clashing joined
 joined-valid nil nil e = nil
 joined-valid (cons {a = d} {b = S} h v) (cons {b = T} k w) e =
-    let clash : Bool = present S && present T && eqb (bitOr S T) (full d) in
-    cons (union-below d S T h k (or-left clash _ e)) (joined-valid v w (or-right clash _ e))
+    cons (union-below d S T h k (or-left (clashAt d S T) _ e)) (joined-valid v w (or-right (clashAt d S T) _ e))
 
 absent-first : (S s : ℕ) (c : List ℕ) → bucket (S ∷ c) ≡ suc s → (S ≡ 0) × (bucket c ≡ s)
 absent-first S s c e =
