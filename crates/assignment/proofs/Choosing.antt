@@ -9,13 +9,14 @@ use lib.ListN.{length, getD, take, drop, set, replicate, length-append, length-r
 use lib.Seq.{drop-cons, drop-set-lt, getD-set-same, take-at}
 use lib.Count.{trailingZeros}
 use Rattle.wcsp.specs.Sign.{full, lowest}
-use Rattle.wcsp.specs.Clause.{InRange, cons, AllPositive, nilPositive, consPositive}
+use Rattle.wcsp.specs.Clause.{InRange, cons, AllPositive}
 use Rattle.wcsp.specs.Row.{Row, ValidRows}
 use Rattle.wcsp.specs.Resolve.{nextPair}
 use Rattle.wcsp.specs.Rebuild.{narrowed, rebuiltValue, rebuiltOver, rebuilt}
 use Rattle.wcsp.proofs.Rebuilding.{value-in-range}
-use Rattle.table.specs.Check.{Sizes, nilSizes, consSizes}
-use Rattle.table.proofs.Twelve.{sizes-at}
+use Rattle.fields.specs.Entries.{EachSize}
+use Rattle.fields.proofs.Sizes.{each-positive}
+use Rattle.fields.proofs.Padding.{sizes-at}
 use Rattle.assignment.specs.Chosen.{singles, Carries}
 use Rattle.assignment.proofs.Lowest.{trailing-lowest}
 use Rattle.assignment.proofs.Lacking.{narrowed-zeros, zeros-in-range, rebuilt-below}
@@ -26,7 +27,7 @@ lengthened ds m = ds ++ replicate m 1
 
 -- rows over them in which no pair is left
 pub record Settled (ds : List ℕ) (m : ℕ) (rs : List Row) : Type 0 where
-  pub sizes : Sizes (lengthened ds m)
+  pub sizes : EachSize (lengthened ds m)
   pub valid : ValidRows (lengthened ds m) rs
   pub done : nextPair (lengthened ds m) rs ≡ none
 
@@ -39,10 +40,6 @@ pub record Chosen (ds : List ℕ) (m : ℕ) (rs : List Row) (target₀ : List �
   pub inRange : InRange (drop k (lengthened ds m)) (values ++ replicate m 0)
   pub written : drop k target ≡ values ++ drop (length ds) target₀
   pub long : length target ≡ length target₀
-
-sizes-positive : {ds : List ℕ} → Sizes ds → AllPositive ds
-sizes-positive nilSizes = nilPositive
-sizes-positive (consSizes h k s) = consPositive h (sizes-positive s)
 
 set-below : (k a : ℕ) (l : List ℕ) → set (replicate (suc k) 0 ++ l) k a ≡ replicate k 0 ++ (a ∷ l)
 set-below zero a l = refl
@@ -59,7 +56,7 @@ module _ (ds : List ℕ) (m : ℕ) (rs : List Row) (settled : Settled ds m rs) w
   whole = length-append ds (replicate m 1) ∙ ap (λ n. length ds + n) (length-replicate m 1)
 
   positive : AllPositive (lengthened ds m)
-  positive = sizes-positive (settled .sizes)
+  positive = each-positive (settled .sizes)
 
   -- nothing is chosen yet
   pub none-chosen : (signs target : List ℕ) → signs ≡ replicate (length ds + m) 0 → Chosen ds m rs target (length ds) signs target

@@ -17,7 +17,7 @@ use Rattle.wcsp.specs.Rebuild.{counts, narrowed}
 use Rattle.wcsp.proofs.PairSearch.{signsAt}
 use Rattle.clause.specs.declared.Clause.{Clause}
 use Rattle.clause.specs.Packed.{signsOf}
-use Rattle.rows.specs.Raw.{rawAt, clauseIn}
+use Rattle.rows.specs.Raw.{rowWidth, rawAt, clauseIn}
 use Rattle.table.proofs.RawRows.{length-rowsFrom}
 use Rattle.hunt.proofs.TableRows.{rowsIn, in-rows, signs-read}
 use Rattle.assignment.specs.Chosen.{disjoint, Carries}
@@ -61,7 +61,7 @@ module _ (t : List ℕ) (base count k : ℕ) (chosen : Clause) (S : ℕ) where
   abbrev pub Met : ℕ → ℕ → Type 0
   Met i sign = Over (λ q. narrowed k q S (rowsIn t base count) ≡ narrowed k q sign (drop i (rowsIn t base count)))
 
-  module _ (i sign : ℕ) (met : Met i sign) (h : i < count) (x : Clause) (e : x ≡ clauseIn (rawAt t (base + 5 * i)))
+  module _ (i sign : ℕ) (met : Met i sign) (h : i < count) (x : Clause) (e : x ≡ clauseIn (rawAt t (base + rowWidth * i)))
       (low : ℕ) (l : low ≡ bucket (signsOf x)) where
     read : signsAt (rowsIn t base count) i ≡ signsOf x
     read = signs-read t base count i h x e

@@ -2,26 +2,28 @@
 use Prim.Native.Nat.{ℕ, _+_, _*_, _<_, _≤_}
 use native.Mathlib.Omega.{arith}
 use mathlib.Core.Path.{_≡_, refl, sym, ap, _∙_}
-use mathlib.Core.Bool.{Bool, true, false, cond}
+use mathlib.Core.Bool.{true, false}
 use mathlib.Core.List.{List, _++_}
 use mathlib.Core.Option.{Option, none, some}
 use lib.ListN.{length, drop}
 use borrow.Author.Tests.{lt-ltb, le-ltb}
 use Rattle.wcsp.specs.Resolve.{Pair, nextPair}
 use Rattle.clause.specs.Packed.{Packed}
+use Rattle.rows.specs.Raw.{rowWidth}
 use Rattle.table.specs.declared.Shape.{Shape}
 use Rattle.table.specs.declared.Checked.{Checked}
 use Rattle.table.specs.declared.Checked.the-variants.{Table, Invalid}
 use Rattle.table.specs.Meaning.{variablesOf, rowsFrom, tableRows, domains}
 use Rattle.table.specs.Valid.{validTable}
 use Rattle.table.specs.Check.{shapeOf, checkTable}
+use Rattle.table.proofs.Tested.{table-valid, table-invalid}
 use Rattle.hunt.specs.declared.Hunted.{Hunted}
 use Rattle.hunt.specs.declared.Hunted.the-variants.{Next, Nothing}
 use Rattle.hunt.specs.Hunt.{huntedOf}
 use Rattle.hunt.proofs.Climbing as climbing
 use Rattle.assignment.specs.Calls.{PlanReturned, tableAssignment, planOn, planCall}
 use Rattle.assignment.specs.Chosen.{Ready}
-use Rattle.assignment.proofs.Tables.{table-valid, variables-are, rows-within, rows-are, fulls-are, fulls-packed}
+use Rattle.assignment.proofs.Tables.{rows-valid, variables-are, rows-within, rows-are, fulls-are, fulls-packed}
 
 -- what the call returns and leaves
 abbrev pub Returned : List ℕ → List ℕ → ℕ → List ℕ → Type 0
@@ -46,21 +48,11 @@ module _ (t target : List ℕ) where
 
 module _ (t : List ℕ) (checked : Checked) (answer : checked ≡ checkTable t) where
   pub not-a-table : (target : List ℕ) → checked ≡ Invalid → Returned t target 9 target
-  unfolding checkTable
-  not-a-table target e = go (validTable t) refl (sym answer ∙ e)
-    where
-      go : (b : Bool) → validTable t ≡ b → cond b (Table (shapeOf t)) Invalid ≡ Invalid → Returned t target 9 target
-      go true v f = let z : _≡_ {A = ℕ} 0 1 = cc in absurd (omega arith)
-      go false v f = returned t target _ (call-invalid t target v)
+  not-a-table target e = returned t target _ (call-invalid t target (table-invalid t checked answer e))
 
   module _ (shape : Shape) (is : checked ≡ Table shape) where
     told : (validTable t ≡ true) × (shape ≡ shapeOf t)
-    unfolding checkTable
-    told = go (validTable t) refl (sym answer ∙ is)
-      where
-        go : (b : Bool) → validTable t ≡ b → cond b (Table (shapeOf t)) Invalid ≡ Table shape → (b ≡ true) × (shape ≡ shapeOf t)
-        go true v f = (refl, cc)
-        go false v f = let z : _≡_ {A = ℕ} 0 1 = cc in absurd (omega arith)
+    told = table-valid t checked answer shape is
 
     variables : shape .variables ≡ variablesOf t
     variables = variables-are t (told .0) shape (told .1)
@@ -68,7 +60,7 @@ module _ (t : List ℕ) (checked : Checked) (answer : checked ≡ checkTable t) 
     rows : rowsFrom (shape .count) (drop (shape .variables + 2) t) ≡ tableRows t
     rows = rows-are t (told .0) shape (told .1)
 
-    pub may-hunt : (shape .variables + 2 + 5 * shape .count ≤ length t) × Packed (shape .fulls)
+    pub may-hunt : (shape .variables + 2 + rowWidth * shape .count ≤ length t) × Packed (shape .fulls)
     may-hunt = (rows-within t (told .0) shape (told .1), fulls-packed t (told .0) shape (told .1))
 
     pub too-short : (target : List ℕ) → length target < shape .variables → Returned t target 10 target
@@ -81,7 +73,7 @@ module _ (t : List ℕ) (checked : Checked) (answer : checked ≡ checkTable t) 
       hunted =
           sought (domains t)
           (fulls-are t (told .0) shape (told .1))
-          (rw rows (table-valid t (told .0)))
+          (rw rows (rows-valid t (told .0)))
           (λ v l. absurd (omega arith))
           (omega arith, omega arith, λ k l a. absurd (omega arith), λ l a b. absurd (omega arith))
           ∙ ap (λ rs. huntedOf (nextPair (domains t) rs)) rows

@@ -12,12 +12,14 @@ use Rattle.wcsp.specs.Row.{ValidRows}
 use Rattle.wcsp.specs.Rebuild.{narrowed, rebuilt}
 use Rattle.clause.specs.declared.Clause.{Clause}
 use Rattle.clause.specs.Packed.{signsOf, Packed, Holds, FullSigns}
-use Rattle.input.specs.Instance.{padded}
+use Rattle.fields.specs.Padding.{padded}
+use Rattle.fields.proofs.Padding.{sizes-padded}
+use Rattle.rows.specs.Raw.{rowWidth}
 use Rattle.table.specs.declared.Shape.{Shape}
-use Rattle.table.specs.Meaning.{variablesOf, tableSizes, tableRows, rowsFrom, domains}
+use Rattle.table.specs.Meaning.{tableRowsIn, variablesOf, tableSizes, tableRows, rowsFrom, domains}
 use Rattle.table.specs.Valid.{validTable}
 use Rattle.table.specs.Check.{shapeOf}
-use Rattle.table.proofs.Twelve.{sizes-padded, full-signs-padded, full-packed-padded}
+use Rattle.table.proofs.Twelve.{full-signs-padded, full-packed-padded}
 use Rattle.table.proofs.Canonical.{passed, validIsCanonical}
 use Rattle.table.proofs.Finishing.{valid-variables, valid-room}
 use Rattle.assignment.specs.Calls.{tableAssignment}
@@ -30,9 +32,9 @@ module _ (t : List ℕ) (v : validTable t ≡ true) where
   few-sizes : length (tableSizes t) ≤ 12
   few-sizes = omega (arith, valid-variables t v, passed t v .few)
 
-  pub table-valid : ValidRows (domains t) (tableRows t)
+  pub rows-valid : ValidRows (domains t) (tableRows t)
   unfolding domains
-  table-valid = validIsCanonical t v .holdable .valid
+  rows-valid = validIsCanonical t v .holdable .valid
 
   module _ (shape : Shape) (e : shape ≡ shapeOf t) where
     pub variables-are : shape .variables ≡ variablesOf t
@@ -41,11 +43,11 @@ module _ (t : List ℕ) (v : validTable t ≡ true) where
     pub few-variables : shape .variables ≤ 12
     few-variables = omega (arith, variables-are, passed t v .few)
 
-    pub rows-within : shape .variables + 2 + 5 * shape .count ≤ length t
+    pub rows-within : shape .variables + 2 + rowWidth * shape .count ≤ length t
     rows-within = omega (arith, variables-are, ap (λ s. s .count) e, valid-room t v)
 
     pub rows-are : rowsFrom (shape .count) (drop (shape .variables + 2) t) ≡ tableRows t
-    unfolding tableRows
+    unfolding tableRowsIn
     rows-are = ap (λ s. rowsFrom (s .count) (drop (s .variables + 2) t)) e
 
     pub fulls-are : FullSigns (shape .fulls) (domains t)
@@ -73,7 +75,7 @@ module _ (t : List ℕ) (shape : Shape) (target₀ : List ℕ) (ready : Ready t 
   settled =
       record {
         sizes = sizes-padded (validIsCanonical t (ready .valid) .holdable .sizes);
-        valid = table-valid t (ready .valid);
+        valid = rows-valid t (ready .valid);
         done = ready .done;
       }
 

@@ -5,6 +5,7 @@ ghost use Prim.Native.Nat.{ℕ, suc, _+_, _*_, _<_, _≤_};
 ghost use lib.ListN.{length, drop};
 ghost use Rattle.wcsp.specs.Rebuild.{narrowed};
 ghost use Rattle.clause.specs.Packed.{signsOf};
+ghost use Rattle.rows.specs.Raw.{rowWidth};
 ghost use Rattle.table.specs.Meaning.{variablesOf, rowsFrom};
 ghost use Rattle.assignment.specs.Calls.{tableAssignment, planCall};
 ghost use Rattle.assignment.specs.Chosen.{disjoint, Carries, Ready};
@@ -31,7 +32,7 @@ fn apart(x: Clause, y: Clause) -> bool
 
 // The full sign met with the signs at k of the rows of bucket k that the chosen higher values falsify.
 fn narrow(t: &[u32], base: usize, count: usize, k: u32, chosen: Clause, full: u32) -> u32
-    requires { ⌜ (base + 5 * count ≤ length (now t)) × (k < 12) ⌝ }
+    requires { ⌜ (base + rowWidth * count ≤ length (now t)) × (k < 12) ⌝ }
     ensures { λ r. ⌜ ((q : List ℕ) → Carries (signsOf chosen) (suc k) q → r ≡ narrowed k q full (rowsFrom count (drop base (now (t .entry))))) ⌝ }
 {
     let mut sign = full;

@@ -12,32 +12,33 @@ use lib.Dec.{eqb}
 use borrow.Author.Tests.{eq-eqb, eqb-true}
 use Rattle.wcsp.specs.Row.{Row, emptyWeight}
 use Rattle.wcsp.specs.Entry.{cost}
-use Rattle.input.specs.Instance.{maxVariables, sizesOf, entriesOf, padded}
-use Rattle.input.proofs.Padding.{assignment-of}
-use Rattle.table.specs.Layout.{capacity}
+use Rattle.fields.specs.Limits.{maxVariables}
+use Rattle.fields.specs.Padding.{padded}
+use Rattle.fields.proofs.Assigning.{assignment-of}
+use Rattle.input.specs.Instance.{sizesOf, entriesOf}
+use Rattle.table.specs.Layout.{capacityIn, capacity}
 use Rattle.table.specs.Meaning.{tableRows}
 use Rattle.encoding.specs.Calls.{encodedRows, encodeCall}
 use Rattle.assignment.specs.Calls.{tableAssignment}
 use Rattle.checker.specs.Replay.{replay}
 use Rattle.checker.specs.Calls.{claimHolds, judged}
 use Rattle.checker.specs.Theorems.{Best}
-use Rattle.checker.proofs.Kept.{Coded, coded, coded-number, encoded-keeps}
-use Rattle.checker.proofs.Claims.{check-judged}
+use Rattle.checker.proofs.Encoded.{GoodEncoding, coded, coded-number}
+use Rattle.checker.proofs.Claims.{check-judged, coded-takes, encoded-left}
 use Rattle.calls.specs.Calls.{State, afterCalls, started}
-use Rattle.calls.specs.Demand.{room}
 use Rattle.calls.specs.Derivation.{DerivationAccepted, DrivenAccepted}
 use Rattle.calls.specs.Driver.{driveWords, callsAsked, DriveReturned, startOf, driveReturns, driveAll}
 use Rattle.calls.proofs.Reaching.{reaches-replayed}
-use Rattle.calls.proofs.Moving.{moved-left, left-held, reached}
+use Rattle.calls.proofs.Moving.{moved-held, reached}
 use Rattle.calls.proofs.Upholding.{upheld}
 use Rattle.calls.proofs.Driving.{drivesCalls}
 
 capacity-small : (len n : ℕ) → capacity len n ≤ 4096
-unfolding capacity
+unfolding capacityIn
 capacity-small len n = omega arith
 
 -- the best assignment with the empty row's weight is a claim that holds
-best-claim : (inst plan : List ℕ) (rs : List Row) → Best inst plan (emptyWeight maxVariables rs)
+best-claim : (inst plan : List ℕ) (rs : List Row) → Best (sizesOf inst) (entriesOf inst) plan (emptyWeight maxVariables rs)
     → claimHolds inst plan (emptyWeight maxVariables rs) rs ≡ true
 unfolding claimHolds
 best-claim inst plan rs b =
@@ -49,23 +50,24 @@ best-claim inst plan rs b =
     )
 
 -- the encoding asks nothing of the slice but its length
-same-length : (inst t work : List ℕ) → length work ≡ length t → Coded inst t → Coded inst work
+same-length : (inst t work : List ℕ) → length work ≡ length t → GoodEncoding inst t → GoodEncoding inst work
 same-length inst t work e c = record { accepted = c .accepted; room = rw e (c .room); fits = rw e (c .fits) }
 
 pub derivationAccepted : DerivationAccepted
 unfolding judged
 derivationAccepted inst t calls e done work long =
     let c = coded inst t e in
+    let a = coded-takes inst t c in
+    let first = encoded-left inst t c in
     let st = afterCalls (started inst t) calls in
     let m = reached inst t c calls in
     let rs = m .rows in
-    let h = left-held inst t c (st .table) rs (moved-left inst t c m) (m .table) in
-    let b : Best inst (tableAssignment (st .table)) (emptyWeight maxVariables rs)
-    = rw (h .rows) at (upheld inst t c (st .table) (st .derivation) m .best done) in
+    let h = moved-held a first m in
+    let b : Best (sizesOf inst) (entriesOf inst) (tableAssignment (st .table)) (emptyWeight maxVariables rs)
+    = rw (h .rows) at (upheld a first m .best done) in
     let replayed : replay (padded (sizesOf inst)) (capacity (length t) (length (sizesOf inst))) (encodedRows inst) 0 (st .derivation)
     ≡ record { number = 0; steps = 0 + length (st .derivation); rows = rs }
-    = reaches-replayed inst (c .accepted) (room inst t) (capacity-small (length t) (length (sizesOf inst))) 0
-    (record { keeps = encoded-keeps inst (c .accepted); fits = c .fits }) (m .reaches) in
+    = reaches-replayed (a .sizes) (a .entries) (capacity-small (length t) (length (sizesOf inst))) 0 first (m .reaches) in
     rw (
       check-judged inst (st .derivation) (tableAssignment (st .table)) (emptyWeight maxVariables (tableRows (st .table))) work
           (coded-number inst work (same-length inst t work long c)),

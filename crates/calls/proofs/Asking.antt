@@ -12,14 +12,13 @@ use borrow.Author.Tests.{eq-eqb, ne-eqb, eqb-true, eqb-false}
 use Rattle.words.specs.Layout.{kindOf, payloadOf}
 use Rattle.calls.specs.Calls.{stepAsked, runAsked, planAsked, afterCall}
 use Rattle.calls.specs.Driver.{limitOf, sliceOf, asked, Driving, targetAfter, driveCall, driveWord}
-use Rattle.calls.specs.Slices.{stateIn, drivingIn, Leaves}
+use Rattle.calls.specs.Slices.{stateIn, stepIn, drivingIn, Leaves, LeavesAll}
 use Rattle.calls.proofs.Leaving.{unchanged}
 
 -- the slices and the target that a word's call leaves
 abbrev pub Made : List ℕ → List ℕ → ℕ → List ℕ → ℕ → List ℕ → List ℕ → ℕ → List ℕ → Type 0
 Made t out made target w t′ out′ made′ target′ =
-    Leaves out made (driveWord out (drivingIn t out made target) w .state) t′ out′ made′
-    × (target′ ≡ driveWord out (drivingIn t out made target) w .target)
+    LeavesAll out made (driveWord out (drivingIn t out made target) w) t′ out′ made′ target′
 
 module _ (t out : List ℕ) (made : ℕ) (target : List ℕ) (fits : made ≤ length out) (w k : ℕ) (kind : k ≡ kindOf w) where
   -- the free words are those from made on
@@ -29,7 +28,7 @@ module _ (t out : List ℕ) (made : ℕ) (target : List ℕ) (fits : made ≤ le
 
   module _ (t′ out′ : List ℕ) (made′ : ℕ) where
     pub step-word : k ≡ 0
-        → Leaves out made (cond (eqb made (length out)) (stateIn t out made) (afterCall (stateIn t out made) stepAsked)) t′ out′ made′
+        → Leaves out made (stepIn t out made) t′ out′ made′
         → Made t out made target w t′ out′ made′ target
     unfolding asked driveCall targetAfter
     step-word e l = rw (word-asks, ← kind, e) (go (eqb made (length out)) refl l)

@@ -9,13 +9,12 @@ use mathlib.Core.Option.{Option, none, some}
 use lib.ListN.{length, getD, take, drop, take-append-drop, drop-of-length-le}
 use lib.Seq.{length-take-le, drop-cons, drop-drop}
 use borrow.Author.Tests.{eq-eqb, ne-eqb}
-use Rattle.input.specs.declared.Answer.{Answer}
+use Rattle.fields.specs.declared.Answer.{Answer}
 use Rattle.encoding.specs.Calls.{encodeCall}
-use Rattle.checker.proofs.Kept.{Coded, coded, encode-refused}
-use Rattle.calls.specs.declared.Driven.{Driven}
+use Rattle.checker.proofs.Encoded.{GoodEncoding, coded, encode-refused}
 use Rattle.calls.specs.Calls.{Call, afterCalls}
-use Rattle.calls.specs.Demand.{Upheld}
-use Rattle.calls.specs.Driver.{asked, driveCall, driveWord, driveWords, callsAsked, DrivesCalls, startOf, driveAll}
+use Rattle.calls.specs.Demand.{UpheldFrom}
+use Rattle.calls.specs.Driver.{asked, driveCall, driveWord, driveWords, callsAsked, DrivesCalls, startOf, driveAll, Drives}
 use Rattle.calls.specs.Slices.{drivingIn}
 use Rattle.calls.proofs.Upholding.{demand-rows}
 use Rattle.calls.proofs.Asking.{Made}
@@ -77,31 +76,28 @@ drivesCalls out d (w ∷ ws) =
     made (some call) calls = refl
 
 -- so what the words leave upholds demand 3
-drive-upheld : (inst t : List ℕ) → Coded inst t → (out target ws : List ℕ)
+drive-upheld : (inst t : List ℕ) → GoodEncoding inst t → (out target ws : List ℕ)
     → let st = driveWords out (startOf inst t target) ws .state in
-    Upheld inst t (st .table) (st .derivation)
+    UpheldFrom inst t (st .table) (st .derivation)
 drive-upheld inst t c out target ws =
     let start = startOf inst t target in
     rw (drivesCalls out start ws) (demand-rows inst t c (callsAsked out start ws))
 
 -- ---- the whole call
 
-abbrev Drove : List ℕ → List ℕ → List ℕ → List ℕ → List ℕ → Driven → List ℕ → List ℕ → List ℕ → Type 0
-Drove inst t calls out target r t′ out′ target′ =
-    (r ≡ driveAll inst t calls out target .answer) × (t′ ≡ driveAll inst t calls out target .table)
-    × (out′ ≡ driveAll inst t calls out target .out) × (target′ ≡ driveAll inst t calls out target .target)
-    × (r .number ≡ 0 → Upheld inst t t′ (take (r .steps) out′))
-
 module _ (inst t calls out target : List ℕ) (a : Answer) (t₀ : List ℕ) (coding : (a ≡ encodeCall inst t .answer) × (t₀ ≡ encodeCall inst t .table)) where
-  pub drive-refused : (a .number ≡ 0 → ⊥) → Drove inst t calls out target (record { number = a .number; steps = 0 }) t₀ out target
+  pub drive-refused : (a .number ≡ 0 → ⊥)
+      → Drives inst t calls out target (record { answer = record { number = a .number; steps = 0 }; table = t₀; out = out; target = target })
   unfolding driveAll
   drive-refused f =
       let refused : encodeCall inst t .answer .number ≡ 0 → ⊥ = rw (coding .0) at f in
+      let kept = coding .1 ∙ encode-refused inst t refused in
       rw (ne-eqb (encodeCall inst t .answer .number) 0 refused)
-      (ap (λ b. record { number = b .number; steps = 0 }) (coding .0), coding .1 ∙ encode-refused inst t refused, refl, refl, λ z. absurd (f z))
+      (λ i. record { answer = record { number = coding .0 i .number; steps = 0 }; table = kept i; out = out; target = target }, λ z. absurd (f z))
 
   pub drive-made : a .number ≡ 0 → (t′ out′ : List ℕ) (made : ℕ) (target′ : List ℕ) (i : ℕ) → length calls ≤ i
-      → Going t₀ out target calls t′ out′ made target′ i → Drove inst t calls out target (record { number = 0; steps = made }) t′ out′ target′
+      → Going t₀ out target calls t′ out′ made target′ i
+      → Drives inst t calls out target (record { answer = record { number = 0; steps = made }; table = t′; out = out′; target = target′ })
   unfolding driveAll
   drive-made e t′ out′ made target′ i h g =
       let start = startOf inst t target in
@@ -112,4 +108,4 @@ module _ (inst t calls out target : List ℕ) (a : Answer) (t₀ : List ℕ) (co
       let front : length (take made out′) ≡ made = length-take-le made out′ (g .room) in
       let whole : out′ ≡ take made out′ ++ drop made out = rw (← g .rest) (sym (take-append-drop made out′)) in
       rw (eq-eqb (encodeCall inst t .answer .number) 0 encoded, end, front)
-      (refl, refl, whole, refl, λ z. rw end at (drive-upheld inst t c out target calls))
+      (λ j. record { answer = record { number = 0; steps = made }; table = t′; out = whole j; target = target′ }, λ z. rw end at (drive-upheld inst t c out target calls))

@@ -1,7 +1,6 @@
 -- A slice that holds an instance's sizes and rows as a table: what it reads as, and what the step and the plan call come to on its rows.
 use Prim.Native.Nat.{ℕ, _≤_, _<_, min}
-use mathlib.Core.Path.{_≡_, sym, ap, ap₂, _∙_}
-use mathlib.Core.Bool.{true}
+use mathlib.Core.Path.{_≡_, ap₂}
 use mathlib.Core.List.{List, [], _++_}
 use mathlib.Core.Option.{Option, none, some}
 use lib.ListN.{length, take, drop}
@@ -9,14 +8,14 @@ use borrow.Author.Tests.{lt-ltb, le-ltb}
 use Rattle.wcsp.specs.Row.{Row}
 use Rattle.wcsp.specs.Resolve.{Pair, nextPair}
 use Rattle.wcsp.specs.Rebuild.{rebuilt}
-use Rattle.input.specs.Instance.{padded}
+use Rattle.fields.specs.Padding.{padded}
 use Rattle.table.specs.Layout.{capacity, tableWords}
+use Rattle.table.proofs.Held.{Held}
 use Rattle.stepping.specs.Advance.{withRows}
 use Rattle.resolution.specs.Step.{oneStep}
 use Rattle.resolution.specs.Run.{runRows}
 use Rattle.resolution.specs.Calls.{stepReturns, stepCall, runReturns, runCall}
 use Rattle.assignment.specs.Calls.{tableAssignment, planOn, planCall}
-use Rattle.checker.proofs.Holding.{Held}
 
 module _ {t : List ℕ} {len : ℕ} {ds : List ℕ} {rs : List Row} (h : Held t len ds rs) where
   pub held-rows : (rs′ : List Row) → withRows t rs′ ≡ tableWords len ds rs′

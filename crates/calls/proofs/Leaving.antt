@@ -3,11 +3,10 @@ use Prim.Native.Nat.{ℕ, _+_, _-_, _≤_, _<_, _/_, _%_, min}
 use native.Mathlib.Numerals.{add-one}
 use native.Mathlib.Omega.{arith}
 use mathlib.Core.Path.{_≡_, refl, sym, ap, _∙_}
-use mathlib.Core.Bool.{Bool, true, false, cond}
+use mathlib.Core.Bool.{Bool, true, false}
 use mathlib.Core.List.{List, [], _∷_, _++_, append-nil}
 use lib.ListN.{length, take, drop, set, take-append-drop, length-append, length-take, length-drop, length-set}
 use lib.Seq.{length-take-le, take-append-seam, drop-append-seam, take-append-add, drop-append-add, take-append-le, drop-append-le, take-suc-set, drop-set-lt, drop-drop}
-use lib.Dec.{eqb}
 use borrow.Author.Tests.{eq-eqb, ne-eqb}
 use denote.Enum.Declared.{tagOf}
 use types.Run.{OneOf, miss}
@@ -22,9 +21,9 @@ use Rattle.resolution.specs.declared.RunAnswer.{RunAnswer}
 use Rattle.resolution.specs.Run.{runRows}
 use Rattle.resolution.specs.Calls.{stepCall, RunReturned, runCall}
 use Rattle.assignment.specs.Calls.{planCall}
-use Rattle.calls.specs.Calls.{stepAsked, runAsked, planAsked, wordsOfStep, afterCall}
+use Rattle.calls.specs.Calls.{runAsked, planAsked, wordsOfStep, afterCall}
 use Rattle.calls.specs.Driver.{limitOf, sliceOf, targetAfter}
-use Rattle.calls.specs.Slices.{stateIn, Leaves}
+use Rattle.calls.specs.Slices.{stateIn, stepIn, Leaves}
 
 -- ---- a front that may be longer than the list
 
@@ -57,19 +56,19 @@ no-word (Stepped w) h = absurd (miss (0 ∷ 1 ∷ []) 2 tt h)
 module _ (t out : List ℕ) (made : ℕ) (fits : made ≤ length out) where
   -- no place is left
   pub step-full : made ≡ length out
-      → Leaves out made (cond (eqb made (length out)) (stateIn t out made) (afterCall (stateIn t out made) stepAsked)) t out made
+      → Leaves out made (stepIn t out made) t out made
   step-full e = rw (eq-eqb made (length out) e) (unchanged t out made fits)
 
   module _ (left : made ≡ length out → ⊥) (a : StepAnswer) (t′ : List ℕ) (answered : a ≡ stepCall t .answer) (table : t′ ≡ stepCall t .table) where
     pub step-none : OneOf (0 ∷ 1 ∷ []) (tagOf the-type a)
-        → Leaves out made (cond (eqb made (length out)) (stateIn t out made) (afterCall (stateIn t out made) stepAsked)) t′ out made
+        → Leaves out made (stepIn t out made) t′ out made
     unfolding afterCall
     step-none h =
         let none : wordsOfStep (stepCall t .answer) ≡ [] = rw (← answered) (no-word a h) in
         rw (ne-eqb made (length out) left, none, append-nil, ← table) (unchanged t′ out made fits)
 
     pub step-made : (w : ℕ) → a ≡ Stepped w
-        → Leaves out made (cond (eqb made (length out)) (stateIn t out made) (afterCall (stateIn t out made) stepAsked)) t′ (set out made w) (made + 1)
+        → Leaves out made (stepIn t out made) t′ (set out made w) (made + 1)
     unfolding afterCall
     step-made w e =
         let one : wordsOfStep (stepCall t .answer) ≡ w ∷ [] = rw (← answered, e) in

@@ -1,5 +1,5 @@
--- The invariant of a list of calls: the slice holds rows that the encoding's rows reach by the derivation's words, each step on the next pair
--- and with room. A step call and a run go on by words of the same kind; a plan call leaves all as it is.
+-- The invariant of a list of calls: the slice holds rows that the first rows reach by the derivation's words, each step on the next pair and with
+-- room. A step call and a run go on by words of the same kind; a plan call leaves all as it is.
 use Prim.Native.Nat.{ℕ, min}
 use mathlib.Core.Path.{_≡_, refl, _∙_}
 use mathlib.Core.Bool.{Bool, true, false, cond}
@@ -10,122 +10,118 @@ use lib.Seq.{take-append-seam}
 use lib.Dec.{ltb}
 use borrow.Author.Tests.{ltb-false}
 use Rattle.wcsp.specs.Row.{Row}
+use Rattle.wcsp.specs.Entry.{Entry}
 use Rattle.wcsp.specs.Resolve.{Pair, nextPair, resolve}
+use Rattle.fields.specs.Padding.{padded}
 use Rattle.input.specs.Instance.{sizesOf}
-use Rattle.table.specs.Layout.{tableWords}
+use Rattle.table.specs.Layout.{capacity, tableWords}
+use Rattle.table.proofs.Held.{Held}
 use Rattle.encoding.specs.Calls.{encodedRows}
 use Rattle.stepping.specs.Step.{finished, refusing, stepping}
 use Rattle.resolution.specs.Run.{Ran, runRows}
 use Rattle.resolution.specs.Calls.{stepReturns, stepCall, runCall}
 use Rattle.resolution.proofs.Single.{no-step}
-use Rattle.checker.proofs.Kept.{Coded, coded, coded-table, encoded-keeps, keeps-holdable}
-use Rattle.checker.proofs.Replaying.{Left}
+use Rattle.checker.proofs.Encoded.{GoodEncoding, coded, coded-table}
+use Rattle.checker.proofs.Kept.{Takes}
+use Rattle.checker.proofs.Replaying.{Left, left-held}
+use Rattle.checker.proofs.Claims.{coded-takes, encoded-left}
 use Rattle.calls.specs.Calls.{Call, stepAsked, runAsked, planAsked, State, wordsOfStep, afterCall, afterCalls, started}
-use Rattle.calls.specs.Demand.{domainsOf, room, EncodesExactly}
+use Rattle.calls.specs.Demand.{EncodesExactly}
 use Rattle.calls.proofs.Reaching.{Reaches, still, onward, reaches-append, reaches-left}
-use Rattle.checker.proofs.Holding.{Held, held}
 use Rattle.calls.proofs.Held.{held-rows, held-step, held-run}
 use Rattle.calls.proofs.Running.{Runs, run-runs, next-step}
 
 pub encodesExactly : EncodesExactly
 encodesExactly inst t e = coded-table inst t (coded inst t e)
 
--- a slice with the rows that steps with these words make of rs
-pub record Moved (inst t : List ℕ) (rs : List Row) (t′ ws : List ℕ) : Type 0 where
+-- a slice of this length with the rows that steps with these words make of rs
+pub record Moved (len : ℕ) (ds : List ℕ) (rs : List Row) (t′ ws : List ℕ) : Type 0 where
   pub rows : List Row
-  pub table : t′ ≡ tableWords (length t) (sizesOf inst) rows
-  pub reaches : Reaches (domainsOf inst) (room inst t) rs ws rows
-
-abbrev pub Reached : List ℕ → List ℕ → State → Type 0
-Reached inst t st = Moved inst t (encodedRows inst) (st .table) (st .derivation)
+  pub table : t′ ≡ tableWords len ds rows
+  pub reaches : Reaches (padded ds) (capacity len (length ds)) rs ws rows
 
 -- the run that a run call with this limit and this slice makes
-abbrev pub ran : List ℕ → List ℕ → List Row → ℕ → List ℕ → Ran
-ran inst t rs limit slice = runRows (domainsOf inst) (room inst t) (min limit (length slice)) rs []
+abbrev pub ran : ℕ → List ℕ → List Row → ℕ → List ℕ → Ran
+ran len ds rs limit slice = runRows (padded ds) (capacity len (length ds)) (min limit (length slice)) rs []
 
 -- steps on from what was reached
-moved-on : {inst t t′ t″ ws vs : List ℕ} {rs : List Row} (m : Moved inst t rs t′ ws) → Moved inst t (m .rows) t″ vs
-    → Moved inst t rs t″ (ws ++ vs)
+moved-on : {len : ℕ} {ds t′ t″ ws vs : List ℕ} {rs : List Row} (m : Moved len ds rs t′ ws) → Moved len ds (m .rows) t″ vs
+    → Moved len ds rs t″ (ws ++ vs)
 moved-on m n = record { rows = n .rows; table = n .table; reaches = reaches-append (m .reaches) (n .reaches) }
 
-module _ (inst t : List ℕ) (c : Coded inst t) where
-  pub moved-left : {t′ ws : List ℕ} (m : Moved inst t (encodedRows inst) t′ ws) → Left inst (room inst t) (m .rows)
-  moved-left m =
-      reaches-left inst (c .accepted) (room inst t)
-      (record { keeps = encoded-keeps inst (c .accepted); fits = c .fits }) (m .reaches)
+module _ {len : ℕ} {ds : List ℕ} {es : List Entry} (a : Takes len ds es) where
+  abbrev cap : ℕ
+  cap = capacity len (length ds)
 
-  pub left-held : (t′ : List ℕ) (rs : List Row) → Left inst (room inst t) rs → t′ ≡ tableWords (length t) (sizesOf inst) rs
-      → Held t′ (length t) (sizesOf inst) rs
-  left-held t′ rs l e =
-      held t′ (length t) (sizesOf inst) rs
-      (keeps-holdable inst (c .accepted) rs (l .keeps) (length t) (c .room) (l .fits)) e
-
-  module _ (t′ : List ℕ) (rs : List Row) (l : Left inst (room inst t) rs) (h : Held t′ (length t) (sizesOf inst) rs) where
+  module _ {t′ : List ℕ} {rs : List Row} (l : Left ds es cap rs) (h : Held t′ len ds rs) where
     -- ---- a step call
 
-    pub step-done : nextPair (domainsOf inst) rs ≡ none → stepCall t′ ≡ stepReturns t′ finished
-    step-done e = rw (held-step h, no-step (domainsOf inst) (room inst t) rs e)
+    pub step-done : nextPair (padded ds) rs ≡ none → stepCall t′ ≡ stepReturns t′ finished
+    step-done e = rw (held-step h, no-step (padded ds) cap rs e)
 
-    pub step-left : (pr : Pair) → nextPair (domainsOf inst) rs ≡ some pr
-        → stepCall t′
-        ≡ stepReturns t′
-        (cond (ltb (room inst t) (length (resolve (domainsOf inst) pr rs))) (refusing 12) (stepping pr (resolve (domainsOf inst) pr rs)))
-    step-left pr e = rw (held-step h, next-step inst (c .accepted) (room inst t) pr l e)
+    pub step-left : (pr : Pair) → nextPair (padded ds) rs ≡ some pr
+        → stepCall t′ ≡ stepReturns t′ (cond (ltb cap (length (resolve (padded ds) pr rs))) (refusing 12) (stepping pr (resolve (padded ds) pr rs)))
+    step-left pr e = rw (held-step h, next-step (a .entries) cap pr l e)
 
-    step-moved : Moved inst t rs (stepCall t′ .table) (wordsOfStep (stepCall t′ .answer))
+    step-moved : Moved len ds rs (stepCall t′ .table) (wordsOfStep (stepCall t′ .answer))
     unfolding stepReturns wordsOfStep
-    step-moved = go (nextPair (domainsOf inst) rs) refl
+    step-moved = go (nextPair (padded ds) rs) refl
       where
-        fitting : (pr : Pair) → nextPair (domainsOf inst) rs ≡ some pr → (b : Bool)
-            → ltb (room inst t) (length (resolve (domainsOf inst) pr rs)) ≡ b
-            → Moved inst t rs (stepReturns t′ (cond b (refusing 12) (stepping pr (resolve (domainsOf inst) pr rs))) .table)
-            (wordsOfStep (stepReturns t′ (cond b (refusing 12) (stepping pr (resolve (domainsOf inst) pr rs))) .answer))
+        fitting : (pr : Pair) → nextPair (padded ds) rs ≡ some pr → (b : Bool) → ltb cap (length (resolve (padded ds) pr rs)) ≡ b
+            → Moved len ds rs (stepReturns t′ (cond b (refusing 12) (stepping pr (resolve (padded ds) pr rs))) .table)
+            (wordsOfStep (stepReturns t′ (cond b (refusing 12) (stepping pr (resolve (padded ds) pr rs))) .answer))
         fitting pr e true f = record { rows = rs; table = h .words; reaches = still }
         fitting pr e false f =
-            let rs′ = resolve (domainsOf inst) pr rs in
-            record {
-              rows = rs′;
-              table = held-rows h rs′;
-              reaches = onward pr e (ltb-false (room inst t) (length rs′) f) still;
-            }
+            let rs′ = resolve (padded ds) pr rs in
+            record { rows = rs′; table = held-rows h rs′; reaches = onward pr e (ltb-false cap (length rs′) f) still }
 
-        go : (o : Option Pair) → nextPair (domainsOf inst) rs ≡ o → Moved inst t rs (stepCall t′ .table) (wordsOfStep (stepCall t′ .answer))
+        go : (o : Option Pair) → nextPair (padded ds) rs ≡ o → Moved len ds rs (stepCall t′ .table) (wordsOfStep (stepCall t′ .answer))
         go none e = rw (step-done e) (record { rows = rs; table = h .words; reaches = still })
-        go (some pr) e =
-            rw (step-left pr e) (fitting pr e (ltb (room inst t) (length (resolve (domainsOf inst) pr rs))) refl)
+        go (some pr) e = rw (step-left pr e) (fitting pr e (ltb cap (length (resolve (padded ds) pr rs))) refl)
 
     -- ---- a run
 
     module _ (limit : ℕ) (slice : List ℕ) where
-      pub ran-runs : Runs (domainsOf inst) (room inst t) (min limit (length slice)) rs [] (ran inst t rs limit slice)
-      ran-runs = run-runs inst (c .accepted) (room inst t) (min limit (length slice)) rs [] l
+      pub ran-runs : Runs (padded ds) cap (min limit (length slice)) rs [] (ran len ds rs limit slice)
+      ran-runs = run-runs (a .entries) cap (min limit (length slice)) rs [] l
 
-      pub run-table : runCall t′ limit slice .table ≡ tableWords (length t) (sizesOf inst) (ran inst t rs limit slice .rows)
-      run-table = rw (held-run h limit slice) (held-rows h (ran inst t rs limit slice .rows))
+      pub run-table : runCall t′ limit slice .table ≡ tableWords len ds (ran len ds rs limit slice .rows)
+      run-table = rw (held-run h limit slice) (held-rows h (ran len ds rs limit slice .rows))
 
       run-words : take (runCall t′ limit slice .answer .steps) (runCall t′ limit slice .slice) ≡ ran-runs .words
-      run-words = rw (held-run h limit slice) (take-append-seam (ran inst t rs limit slice .made) (drop (length (ran inst t rs limit slice .made)) slice) ∙ ran-runs .made)
+      run-words =
+          let made = ran len ds rs limit slice .made in
+          rw (held-run h limit slice) (take-append-seam made (drop (length made) slice) ∙ ran-runs .made)
 
-      run-moved : Moved inst t rs (runCall t′ limit slice .table) (take (runCall t′ limit slice .answer .steps) (runCall t′ limit slice .slice))
-      run-moved = rw run-words (record { rows = ran inst t rs limit slice .rows; table = run-table; reaches = ran-runs .reaches })
+      run-moved : Moved len ds rs (runCall t′ limit slice .table) (take (runCall t′ limit slice .answer .steps) (runCall t′ limit slice .slice))
+      run-moved = rw run-words (record { rows = ran len ds rs limit slice .rows; table = run-table; reaches = ran-runs .reaches })
 
-  -- ---- the invariant
+  -- ---- the invariant, from rows that keep sizes and entries, and fit
 
-  call-reached : (st : State) (call : Call) → Reached inst t st → Reached inst t (afterCall st call)
-  unfolding afterCall
-  call-reached st stepAsked m =
-      let l = moved-left m in
-      moved-on m (step-moved (st .table) (m .rows) l (left-held (st .table) (m .rows) l (m .table)))
-  call-reached st (runAsked limit slice) m =
-      let l = moved-left m in
-      moved-on m (run-moved (st .table) (m .rows) l (left-held (st .table) (m .rows) l (m .table)) limit slice)
-  call-reached st (planAsked target) m = m
+  module _ {from : List Row} (first : Left ds es cap from) where
+    pub moved-left : {t′ ws : List ℕ} (m : Moved len ds from t′ ws) → Left ds es cap (m .rows)
+    moved-left m = reaches-left first (m .reaches)
 
-  calls-reached : (st : State) (calls : List Call) → Reached inst t st → Reached inst t (afterCalls st calls)
-  unfolding afterCalls
-  calls-reached st [] m = m
-  calls-reached st (call ∷ calls) m = calls-reached (afterCall st call) calls (call-reached st call m)
+    pub moved-held : {t′ ws : List ℕ} (m : Moved len ds from t′ ws) → Held t′ len ds (m .rows)
+    moved-held m = left-held a (moved-left m) (m .table)
 
-  pub reached : (calls : List Call) → Reached inst t (afterCalls (started inst t) calls)
-  reached calls =
-      calls-reached (started inst t) calls (record { rows = encodedRows inst; table = coded-table inst t c; reaches = still })
+    call-moved : (st : State) (call : Call) → Moved len ds from (st .table) (st .derivation)
+        → Moved len ds from (afterCall st call .table) (afterCall st call .derivation)
+    unfolding afterCall
+    call-moved st stepAsked m = moved-on m (step-moved (moved-left m) (moved-held m))
+    call-moved st (runAsked limit slice) m = moved-on m (run-moved (moved-left m) (moved-held m) limit slice)
+    call-moved st (planAsked target) m = m
+
+    pub calls-moved : (st : State) (calls : List Call) → Moved len ds from (st .table) (st .derivation)
+        → Moved len ds from (afterCalls st calls .table) (afterCalls st calls .derivation)
+    unfolding afterCalls
+    calls-moved st [] m = m
+    calls-moved st (call ∷ calls) m = calls-moved (afterCall st call) calls (call-moved st call m)
+
+-- from an encoding
+pub reached : (inst t : List ℕ) → GoodEncoding inst t → (calls : List Call)
+    → let st = afterCalls (started inst t) calls in
+    Moved (length t) (sizesOf inst) (encodedRows inst) (st .table) (st .derivation)
+reached inst t c calls =
+    calls-moved (coded-takes inst t c) (encoded-left inst t c) (started inst t) calls
+    (record { rows = encodedRows inst; table = coded-table inst t c; reaches = still })

@@ -6,15 +6,20 @@ use mathlib.Core.Path.{_≡_}
 use mathlib.Core.List.{List, [], _∷_, _++_}
 use mathlib.Core.Option.{some}
 use lib.ListN.{length}
-use borrow.Author.Tests.{le-ltb}
+use borrow.Author.Tests.{eq-eqb, le-ltb}
 use Rattle.wcsp.specs.Row.{Row}
+use Rattle.wcsp.specs.Entry.{Entry}
 use Rattle.wcsp.specs.Resolve.{Pair, nextPair, resolve, Steps}
 use Rattle.wcsp.proofs.NextPair.{next-permitted}
+use Rattle.words.specs.Layout.{kindOf}
 use Rattle.words.proofs.Reading.{read-step}
-use Rattle.input.specs.Instance.{instanceFault, sizesOf, padded}
+use Rattle.words.proofs.Inverse.{step-kind}
+use Rattle.fields.specs.Padding.{padded}
+use Rattle.fields.specs.Entries.{FieldSizes, Entries}
 use Rattle.stepping.specs.Step.{stepping, pairWord}
 use Rattle.checker.specs.Replay.{namedPair, replayOn, replayWord, replayNext, replay}
-use Rattle.checker.proofs.Kept.{step-keeps, twelve}
+use Rattle.checker.proofs.Instances.{twelve}
+use Rattle.checker.proofs.Kept.{step-keeps}
 use Rattle.checker.proofs.Replaying.{Left, allowed-room, permitted-passes}
 use Rattle.calls.specs.Calls.{Derives}
 
@@ -36,44 +41,47 @@ pub reaches-steps : {ds : List ℕ} {cap : ℕ} {rs rs′ : List Row} {ws : List
 reaches-steps still = Steps.stop
 reaches-steps (onward pr e f a) = Steps.step pr e (reaches-steps a)
 
-module _ (inst : List ℕ) (accepted : instanceFault inst ≡ 0) (cap : ℕ) where
+module _ {ds : List ℕ} {es : List Entry} {cap : ℕ} where
   -- one step on the next pair
-  pub next-left : {rs : List Row} (pr : Pair) → Left inst cap rs → nextPair (padded (sizesOf inst)) rs ≡ some pr
-      → length (resolve (padded (sizesOf inst)) pr rs) ≤ cap → Left inst cap (resolve (padded (sizesOf inst)) pr rs)
-  next-left {rs} pr l e f =
-      record { keeps = step-keeps inst accepted rs (l .keeps) pr (next-permitted (padded (sizesOf inst)) rs pr e); fits = f }
+  pub next-left : {rs : List Row} (pr : Pair) → Left ds es cap rs → nextPair (padded ds) rs ≡ some pr → length (resolve (padded ds) pr rs) ≤ cap
+      → Left ds es cap (resolve (padded ds) pr rs)
+  next-left {rs} pr l e f = record { keeps = step-keeps (l .keeps) pr (next-permitted (padded ds) rs pr e); fits = f }
 
-  pub reaches-left : {rs rs′ : List Row} {ws : List ℕ} → Left inst cap rs → Reaches (padded (sizesOf inst)) cap rs ws rs′ → Left inst cap rs′
+  pub reaches-left : {rs rs′ : List Row} {ws : List ℕ} → Left ds es cap rs → Reaches (padded ds) cap rs ws rs′ → Left ds es cap rs′
   reaches-left l still = l
   reaches-left l (onward pr e f a) = reaches-left (next-left pr l e f) a
 
-  module _ (small : cap ≤ 4096) where
+  module _ (s : FieldSizes ds) (n : Entries ds 0 es) (small : cap ≤ 4096) where
     -- the step word of the next pair is replayed
-    word-replayed : {rs : List Row} (pr : Pair) → Left inst cap rs → nextPair (padded (sizesOf inst)) rs ≡ some pr
-        → length (resolve (padded (sizesOf inst)) pr rs) ≤ cap
-        → replayWord (padded (sizesOf inst)) cap rs (pairWord pr) ≡ stepping pr (resolve (padded (sizesOf inst)) pr rs)
+    word-replayed : {rs : List Row} (pr : Pair) → Left ds es cap rs → nextPair (padded ds) rs ≡ some pr
+        → length (resolve (padded ds) pr rs) ≤ cap
+        → replayWord (padded ds) cap rs (pairWord pr) ≡ stepping pr (resolve (padded ds) pr rs)
     unfolding replayWord namedPair replayOn
     word-replayed {rs} pr l e f =
-        let ds = padded (sizesOf inst) in
-        let m = next-permitted ds rs pr e in
-        let t = twelve inst accepted in
-        let s : pr .variable < 16 = omega (arith, m .known) in
+        let m = next-permitted (padded ds) rs pr e in
+        let t = twelve s in
+        let v : pr .variable < 16 = omega (arith, m .known) in
         let j : pr .second < 4096 = omega (arith, m .inTable, l .fits) in
         let i : pr .first < 4096 = omega (arith, m .ordered) in
+        let (k, a, b, c) =
+        step-kind (pairWord pr) (pr .variable) (pr .first) (pr .second) (read-step (pr .variable) (pr .first) (pr .second) v i j) in
         rw (
-          read-step (pr .variable) (pr .first) (pr .second) s i j,
-          permitted-passes ds rs pr m,
-          allowed-room inst accepted cap (l .keeps) pr m,
-          le-ltb cap (length (resolve ds pr rs)) f,
+          eq-eqb (kindOf (pairWord pr)) 7 k,
+          a,
+          b,
+          c,
+          permitted-passes (padded ds) rs pr m,
+          allowed-room n cap (l .keeps) pr m,
+          le-ltb cap (length (resolve (padded ds) pr rs)) f,
         )
 
-    pub reaches-replayed : {rs rs′ : List Row} {ws : List ℕ} (k : ℕ) → Left inst cap rs → Reaches (padded (sizesOf inst)) cap rs ws rs′
-        → replay (padded (sizesOf inst)) cap rs k ws ≡ record { number = 0; steps = k + length ws; rows = rs′ }
+    pub reaches-replayed : {rs rs′ : List Row} {ws : List ℕ} (k : ℕ) → Left ds es cap rs → Reaches (padded ds) cap rs ws rs′
+        → replay (padded ds) cap rs k ws ≡ record { number = 0; steps = k + length ws; rows = rs′ }
     unfolding replay replayNext
     reaches-replayed k l still = rw (added k)
       where
         added : (n : ℕ) → n + 0 ≡ n
         added n = omega arith
     reaches-replayed k l (onward {ws = ws} pr e f a) =
-        let n : suc k + length ws ≡ k + suc (length ws) = omega arith in
-        rw (word-replayed pr l e f, ← n) (reaches-replayed (suc k) (next-left pr l e f) a)
+        let later : suc k + length ws ≡ k + suc (length ws) = omega arith in
+        rw (word-replayed pr l e f, ← later) (reaches-replayed (suc k) (next-left pr l e f) a)

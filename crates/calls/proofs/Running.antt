@@ -10,9 +10,11 @@ use lib.ListN.{length}
 use lib.Dec.{ltb}
 use borrow.Author.Tests.{ltb-true, ltb-false}
 use Rattle.wcsp.specs.Row.{Row}
+use Rattle.wcsp.specs.Entry.{Entry}
 use Rattle.wcsp.specs.Resolve.{Pair, nextPair, resolve}
 use Rattle.wcsp.proofs.NextPair.{next-permitted}
-use Rattle.input.specs.Instance.{instanceFault, sizesOf, padded}
+use Rattle.fields.specs.Padding.{padded}
+use Rattle.fields.specs.Entries.{Entries}
 use Rattle.stepping.specs.Step.{Stepping, refusing, stepping, pairWord}
 use Rattle.resolution.specs.Step.{onPair, oneStep}
 use Rattle.resolution.specs.Run.{Ending, done, paused, stopped, Ran, after, atLimit, runRows}
@@ -38,47 +40,47 @@ later (noneLeft x) = noneLeft x
 later (limitMet l pr x) = limitMet (ap suc l) pr x
 later (noRoom l pr x f) = noRoom (omega arith) pr x f
 
-module _ (inst : List ℕ) (accepted : instanceFault inst ≡ 0) (cap : ℕ) where
-  pub next-step : {rs : List Row} (pr : Pair) → Left inst cap rs → nextPair (padded (sizesOf inst)) rs ≡ some pr
-      → oneStep (padded (sizesOf inst)) cap rs
-      ≡ cond (ltb cap (length (resolve (padded (sizesOf inst)) pr rs))) (refusing 12) (stepping pr (resolve (padded (sizesOf inst)) pr rs))
+module _ {ds : List ℕ} {es : List Entry} (n : Entries ds 0 es) (cap : ℕ) where
+  pub next-step : {rs : List Row} (pr : Pair) → Left ds es cap rs → nextPair (padded ds) rs ≡ some pr
+      → oneStep (padded ds) cap rs
+      ≡ cond (ltb cap (length (resolve (padded ds) pr rs))) (refusing 12) (stepping pr (resolve (padded ds) pr rs))
   unfolding oneStep onPair
-  next-step {rs} pr l e = rw e (allowed-room inst accepted cap (l .keeps) pr (next-permitted (padded (sizesOf inst)) rs pr e))
+  next-step {rs} pr l e = rw e (allowed-room n cap (l .keeps) pr (next-permitted (padded ds) rs pr e))
 
-  pub run-runs : (k : ℕ) (rs : List Row) (before : List ℕ) → Left inst cap rs
-      → Runs (padded (sizesOf inst)) cap k rs before (runRows (padded (sizesOf inst)) cap k rs before)
+  pub run-runs : (k : ℕ) (rs : List Row) (before : List ℕ) → Left ds es cap rs
+      → Runs (padded ds) cap k rs before (runRows (padded ds) cap k rs before)
   unfolding runRows after atLimit
-  run-runs zero rs before l = go (nextPair (padded (sizesOf inst)) rs) refl
+  run-runs zero rs before l = go (nextPair (padded ds) rs) refl
     where
-      go : (o : Option Pair) → nextPair (padded (sizesOf inst)) rs ≡ o → Runs (padded (sizesOf inst)) cap 0 rs before (atLimit rs before o)
+      go : (o : Option Pair) → nextPair (padded ds) rs ≡ o → Runs (padded ds) cap 0 rs before (atLimit rs before o)
       go none e = record { words = []; made = sym (append-nil before); reaches = still; ends = noneLeft e }
       go (some pr) e = record { words = []; made = sym (append-nil before); reaches = still; ends = limitMet refl pr e }
-  run-runs (suc k) rs before l = go (nextPair (padded (sizesOf inst)) rs) refl (λ rs′ ws l′. run-runs k rs′ ws l′)
+  run-runs (suc k) rs before l = go (nextPair (padded ds) rs) refl (λ rs′ ws l′. run-runs k rs′ ws l′)
     where
-      ds : List ℕ
-      ds = padded (sizesOf inst)
+      wide : List ℕ
+      wide = padded ds
 
       next : Stepping → Ran
       next =
           after (record { ending = done; rows = rs; made = before })
           (λ number. record { ending = stopped number; rows = rs; made = before })
-          (λ pr rs′. runRows ds cap k rs′ (before ++ (pairWord pr ∷ [])))
+          (λ pr rs′. runRows wide cap k rs′ (before ++ (pairWord pr ∷ [])))
 
       Later : Type 0
-      Later = (rs′ : List Row) (ws : List ℕ) → Left inst cap rs′ → Runs ds cap k rs′ ws (runRows ds cap k rs′ ws)
+      Later = (rs′ : List Row) (ws : List ℕ) → Left ds es cap rs′ → Runs wide cap k rs′ ws (runRows wide cap k rs′ ws)
 
-      room : (pr : Pair) → nextPair ds rs ≡ some pr → (b : Bool) → ltb cap (length (resolve ds pr rs)) ≡ b → Later
-          → Runs ds cap (suc k) rs before (next (cond b (refusing 12) (stepping pr (resolve ds pr rs))))
+      room : (pr : Pair) → nextPair wide rs ≡ some pr → (b : Bool) → ltb cap (length (resolve wide pr rs)) ≡ b → Later
+          → Runs wide cap (suc k) rs before (next (cond b (refusing 12) (stepping pr (resolve wide pr rs))))
       room pr e true f ih =
           record {
             words = [];
             made = sym (append-nil before);
             reaches = still;
-            ends = noRoom (omega arith) pr e (ltb-true cap (length (resolve ds pr rs)) f);
+            ends = noRoom (omega arith) pr e (ltb-true cap (length (resolve wide pr rs)) f);
           }
       room pr e false f ih =
-          let fits = ltb-false cap (length (resolve ds pr rs)) f in
-          let r = ih (resolve ds pr rs) (before ++ (pairWord pr ∷ [])) (next-left inst accepted cap pr l e fits) in
+          let fits = ltb-false cap (length (resolve wide pr rs)) f in
+          let r = ih (resolve wide pr rs) (before ++ (pairWord pr ∷ [])) (next-left pr l e fits) in
           record {
             words = pairWord pr ∷ r .words;
             made = r .made ∙ append-assoc before (pairWord pr ∷ []) (r .words);
@@ -86,7 +88,7 @@ module _ (inst : List ℕ) (accepted : instanceFault inst ≡ 0) (cap : ℕ) whe
             ends = later (r .ends);
           }
 
-      go : (o : Option Pair) → nextPair ds rs ≡ o → Later → Runs ds cap (suc k) rs before (next (oneStep ds cap rs))
+      go : (o : Option Pair) → nextPair wide rs ≡ o → Later → Runs wide cap (suc k) rs before (next (oneStep wide cap rs))
       go none e ih =
-          rw (no-step ds cap rs e) (record { words = []; made = sym (append-nil before); reaches = still; ends = noneLeft e })
-      go (some pr) e ih = rw (next-step pr l e) (room pr e (ltb cap (length (resolve ds pr rs))) refl ih)
+          rw (no-step wide cap rs e) (record { words = []; made = sym (append-nil before); reaches = still; ends = noneLeft e })
+      go (some pr) e ih = rw (next-step pr l e) (room pr e (ltb cap (length (resolve wide pr rs))) refl ih)

@@ -2,17 +2,22 @@
 use mathlib.Core.Path.{refl}
 use Rattle.wcsp.specs.Sign.{has, full, complement, within, present, lowest}
 use Rattle.wcsp.specs.Clause.{falsifies, tautology, same, bucket}
-use Rattle.wcsp.specs.Row.{emptyWeight, addAll, weightOf}
+use Rattle.wcsp.specs.Row.{emptyWeight, addAll, weightOf, heavy}
 use Rattle.wcsp.specs.Entry.{encoded, cost, matches}
 use Rattle.wcsp.specs.Rule.{conclusions, permitted}
 use Rattle.wcsp.specs.Resolve.{nextPair, resolve}
 use Rattle.wcsp.specs.Rebuild.{rebuilt}
-use Rattle.words.specs.Meaning.{wordOf}
-use Rattle.input.specs.Instance.{instanceFault, sizesOf, entriesOf, padded, scanWord, scanBinding, scanCost, sizeIn, variablesIn}
-use Rattle.input.specs.Calls.{isAssignment}
-use Rattle.table.specs.Layout.{tableWords, capacity, tooHeavy}
-use Rattle.table.specs.Meaning.{tableRows, tableSizes, domains, rowFrom}
-use Rattle.table.specs.Valid.{validTable, isSigns, isWeight, isCount, validSigns, rowKinds, hasSigns}
+use Rattle.fields.specs.Padding.{padded}
+use Rattle.fields.specs.Front.{headIn, headed, sizeIn, goodSizes}
+use Rattle.fields.specs.Entries.{costOf, entriesFrom}
+use Rattle.fields.specs.Assignment.{isAssignment}
+use Rattle.input.specs.Instance.{instanceFault, sizesOf, entriesOf, scanWord, scanBinding, scanCost}
+use Rattle.rows.specs.Form.{flatIn, rawsFromIn}
+use Rattle.rows.specs.Raw.{rawAt, weightIn, rowWeighs}
+use Rattle.table.specs.Raws.{rowOf}
+use Rattle.table.specs.Layout.{tableWordsIn, capacityIn}
+use Rattle.table.specs.Meaning.{tableRowsIn, tableSizes, domains}
+use Rattle.table.specs.Valid.{validTableIn, validSigns, signKinds, hasSigns}
 use Rattle.encoding.specs.Calls.{encodeCall}
 use Rattle.stepping.specs.Step.{allowed}
 use Rattle.resolution.specs.Step.{oneStep}
@@ -26,7 +31,7 @@ use Rattle.calls.specs.Driver.{driveAll}
 use Rattle.calls.specs.Witness.{Witnesses}
 
 pub witnesses : Witnesses
-unfolding driveAll afterCall afterCalls stepCall runCall planCall checkCall judged claimHolds isAssignment cost matches replay namedPair permittedPair runRows oneStep allowed tableAssignment rebuilt lowest validTable isSigns isWeight isCount validSigns rowKinds hasSigns tableRows tableSizes domains rowFrom tableWords encodeCall instanceFault scanWord scanBinding scanCost sizeIn variablesIn wordOf sizesOf entriesOf padded encoded addAll tautology same full capacity nextPair permitted conclusions resolve within present complement tooHeavy emptyWeight weightOf has falsifies bucket
+unfolding driveAll afterCall afterCalls stepCall runCall planCall checkCall judged claimHolds isAssignment cost matches replay namedPair permittedPair runRows oneStep allowed tableAssignment rebuilt lowest validTableIn rowWeighs validSigns signKinds hasSigns tableRowsIn rawsFromIn rowOf weightIn rawAt tableSizes domains tableWordsIn flatIn encodeCall instanceFault scanWord scanBinding scanCost headIn headed sizeIn goodSizes costOf entriesFrom sizesOf entriesOf padded encoded addAll tautology same full capacityIn nextPair permitted conclusions resolve within present complement heavy emptyWeight weightOf has falsifies bucket
 witnesses =
     record {
       encodes = refl;

@@ -6,11 +6,11 @@ use mathlib.Core.Option.{some}
 use lib.ListN.{take}
 use Rattle.wcsp.specs.Row.{Row}
 use Rattle.wcsp.specs.Resolve.{Pair, nextPair, resolve}
-use Rattle.encoding.specs.Calls.{Returned, encodeCall}
+use Rattle.encoding.specs.Calls.{encodeCall}
 use Rattle.stepping.specs.Step.{pairWord}
 use Rattle.resolution.specs.declared.StepAnswer.{StepAnswer}
 use Rattle.resolution.specs.declared.StepAnswer.the-variants.{Refused, Done, Stepped}
-use Rattle.resolution.specs.Calls.{StepReturned, stepCall, RunReturned, runCall}
+use Rattle.resolution.specs.Calls.{stepCall, runCall}
 
 -- a call: a step; a run with its limit and its slice's content; a plan with its target's content
 pub data Call : Type 0 where

@@ -6,7 +6,7 @@ use mathlib.Core.Option.{none}
 use lib.ListN.{length, take}
 use Rattle.wcsp.specs.Row.{emptyWeight}
 use Rattle.wcsp.specs.Resolve.{nextPair}
-use Rattle.input.specs.Instance.{maxVariables}
+use Rattle.fields.specs.Limits.{maxVariables}
 use Rattle.table.specs.Meaning.{tableRows}
 use Rattle.encoding.specs.Calls.{encodeCall}
 use Rattle.assignment.specs.Calls.{tableAssignment}
@@ -18,11 +18,11 @@ use Rattle.calls.specs.Driver.{driveAll}
 -- once no pair is left: every step of the derivation is replayed, and the claim of the rebuilt assignment with the empty row's weight holds
 abbrev pub DerivationAccepted : Type 0
 DerivationAccepted = (inst t : List ℕ) (calls : List Call) → encodeCall inst t .answer .number ≡ 0
-    → nextPair (domainsOf inst) (tableRows (afterCalls (started inst t) calls .table)) ≡ none
+    → let st = afterCalls (started inst t) calls in
+    nextPair (domainsOf inst) (tableRows (st .table)) ≡ none
     → (work : List ℕ) → length work ≡ length t
-    → checkCall inst (afterCalls (started inst t) calls .derivation) (tableAssignment (afterCalls (started inst t) calls .table))
-    (emptyWeight maxVariables (tableRows (afterCalls (started inst t) calls .table))) work .answer
-    ≡ record { number = 0; steps = length (afterCalls (started inst t) calls .derivation) }
+    → checkCall inst (st .derivation) (tableAssignment (st .table)) (emptyWeight maxVariables (tableRows (st .table))) work .answer
+    ≡ record { number = 0; steps = length (st .derivation) }
 
 -- the same of the driver: what it leaves in front of its slice is accepted
 abbrev pub DrivenAccepted : Type 0

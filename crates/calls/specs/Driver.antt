@@ -12,6 +12,7 @@ use Rattle.encoding.specs.Calls.{encodeCall}
 use Rattle.assignment.specs.Calls.{planCall}
 use Rattle.calls.specs.declared.Driven.{Driven}
 use Rattle.calls.specs.Calls.{Call, stepAsked, runAsked, planAsked, State, afterCall, afterCalls, started}
+use Rattle.calls.specs.Demand.{UpheldFrom}
 
 abbrev pub limitOf : ℕ → ℕ
 limitOf w = payloadOf w / 16384
@@ -93,3 +94,8 @@ driveAll inst t calls out target =
     let coded = encodeCall inst t in
     cond (eqb (coded .answer .number) 0) (driveReturns out (driveWords out (startOf inst t target) calls))
     (record { answer = record { number = coded .answer .number; steps = 0 }; table = t; out = out; target = target })
+
+-- the driver's promise: what it answers and leaves, and where the encoding is good, demand 3 of the table and of the derivation in front of its slice
+abbrev pub Drives : List ℕ → List ℕ → List ℕ → List ℕ → List ℕ → DriveReturned → Type 0
+Drives inst t calls out target r =
+    (r ≡ driveAll inst t calls out target) × (r .answer .number ≡ 0 → UpheldFrom inst t (r .table) (take (r .answer .steps) (r .out)))

@@ -7,7 +7,9 @@ use mathlib.Core.Option.{none, some}
 use lib.ListN.{replicate}
 use Rattle.wcsp.specs.Resolve.{nextPair}
 use Rattle.words.specs.Layout.{headWord, sizeWord, bindingWord, costWord, stepWord}
-use Rattle.input.specs.Calls.{good}
+use Rattle.fields.specs.Answers.{good}
+use Rattle.rows.specs.Raw.{rowWidth}
+use Rattle.table.specs.Layout.{rowsAt}
 use Rattle.table.specs.Meaning.{tableRows}
 use Rattle.encoding.specs.Calls.{encodeCall}
 use Rattle.resolution.specs.declared.Outcome.{Outcome}
@@ -23,7 +25,7 @@ p1 = headWord 1 ∷ sizeWord 2 ∷ bindingWord 0 0 ∷ costWord 3 ∷ bindingWor
 
 -- a slice that takes two rows of one variable, or of two, whatever lay in it
 abbrev pub lent : List ℕ
-lent = replicate 14 7
+lent = replicate (rowsAt 2 + 2 * rowWidth) 7
 
 -- a run of at most five steps, and a plan
 abbrev pub p1Calls : List Call

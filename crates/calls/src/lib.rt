@@ -1,14 +1,11 @@
 // The driver: makes the calls that a list of words asks for, one after the other, on a table that it encodes first. Demand 3 is its contract.
 ghost use mathlib.Core.Path.{_≡_};
-ghost use mathlib.Core.Bool.{cond};
 ghost use Prim.Native.Nat.{_≤_};
 ghost use lib.ListN.{length, take, drop};
-ghost use lib.Dec.{eqb};
 ghost use Rattle.words.specs.Layout.{payloadOf};
-ghost use Rattle.calls.specs.Calls.{stepAsked, runAsked, planAsked, afterCall};
-ghost use Rattle.calls.specs.Demand.{Upheld};
-ghost use Rattle.calls.specs.Driver.{limitOf, sliceOf, targetAfter, driveWord, driveAll};
-ghost use Rattle.calls.specs.Slices.{stateIn, drivingIn, Leaves};
+ghost use Rattle.calls.specs.Calls.{runAsked, planAsked, afterCall};
+ghost use Rattle.calls.specs.Driver.{limitOf, sliceOf, targetAfter, driveWord, Drives};
+ghost use Rattle.calls.specs.Slices.{stateIn, stepIn, drivingIn, Leaves, LeavesAll};
 use resolution::StepAnswer;
 
 // The number of the encoding, and how many steps the calls made.
@@ -20,7 +17,7 @@ pub struct Driven {
 // A step call, if there is a place for its word. The answer is how many step words there are then.
 fn step_into(t: &mut [u32], out: &mut [u32], made: usize) -> usize
     requires { ⌜ made ≤ length (now out) ⌝ }
-    ensures { λ r. ⌜ Leaves (now (out .entry)) made (cond (eqb made (length (now (out .entry)))) (stateIn (now (t .entry)) (now (out .entry)) made) (afterCall (stateIn (now (t .entry)) (now (out .entry)) made) stepAsked)) (now (t .exit)) (now (out .exit)) r ⌝ }
+    ensures { λ r. ⌜ Leaves (now (out .entry)) made (stepIn (now (t .entry)) (now (out .entry)) made) (now (t .exit)) (now (out .exit)) r ⌝ }
 {
     if made == out.len() {
         return made;
@@ -39,7 +36,8 @@ fn run_into(t: &mut [u32], out: &mut [u32], made: usize, w: u32) -> usize
     ensures { λ r. ⌜ Leaves (now (out .entry)) made (afterCall (stateIn (now (t .entry)) (now (out .entry)) made) (runAsked (limitOf w) (take (sliceOf w) (drop made (now (out .entry)))))) (now (t .exit)) (now (out .exit)) r ⌝ }
 {
     let p = words::payload(w);
-    let end = made + resolution::lesser((p % 16384) as usize, out.len() - made);
+    let free = (out.len() - made) as u64;
+    let end = made + fields::lesser((p % 16384) as u64, free) as usize;
     let ran = resolution::run(t, (p / 16384) as usize, &mut out[made..end]);
     made + ran.steps
 }
@@ -48,14 +46,14 @@ fn run_into(t: &mut [u32], out: &mut [u32], made: usize, w: u32) -> usize
 fn plan_into(t: &[u32], target: &mut [u8], w: u32)
     ensures { λ r. ⌜ now (target .exit) ≡ targetAfter (now (t .entry)) (now (target .entry)) (planAsked (take (payloadOf w) (now (target .entry)))) ⌝ }
 {
-    let end = resolution::lesser(words::payload(w) as usize, target.len());
+    let end = fields::lesser(words::payload(w) as u64, target.len() as u64) as usize;
     assignment::plan(t, &mut target[..end]);
 }
 
 // The call that a word asks for.
 fn make_call(t: &mut [u32], out: &mut [u32], made: usize, target: &mut [u8], w: u32) -> usize
     requires { ⌜ made ≤ length (now out) ⌝ }
-    ensures { λ r. ⌜ Leaves (now (out .entry)) made (driveWord (now (out .entry)) (drivingIn (now (t .entry)) (now (out .entry)) made (now (target .entry))) w .state) (now (t .exit)) (now (out .exit)) r × (now (target .exit) ≡ driveWord (now (out .entry)) (drivingIn (now (t .entry)) (now (out .entry)) made (now (target .entry))) w .target) ⌝ }
+    ensures { λ r. ⌜ LeavesAll (now (out .entry)) made (driveWord (now (out .entry)) (drivingIn (now (t .entry)) (now (out .entry)) made (now (target .entry))) w) (now (t .exit)) (now (out .exit)) r (now (target .exit)) ⌝ }
 {
     match words::kind(w) {
         0 => step_into(t, out, made),
@@ -76,7 +74,7 @@ pub fn drive(
     out: &mut [u32],
     target: &mut [u8],
 ) -> Driven
-    ensures { λ r. ⌜ (r ≡ driveAll (now (instance .entry)) (now (t .entry)) (now (calls .entry)) (now (out .entry)) (now (target .entry)) .answer) × (now (t .exit) ≡ driveAll (now (instance .entry)) (now (t .entry)) (now (calls .entry)) (now (out .entry)) (now (target .entry)) .table) × (now (out .exit) ≡ driveAll (now (instance .entry)) (now (t .entry)) (now (calls .entry)) (now (out .entry)) (now (target .entry)) .out) × (now (target .exit) ≡ driveAll (now (instance .entry)) (now (t .entry)) (now (calls .entry)) (now (out .entry)) (now (target .entry)) .target) × (r .number ≡ 0 → Upheld (now (instance .entry)) (now (t .entry)) (now (t .exit)) (take (r .steps) (now (out .exit)))) ⌝ }
+    ensures { λ r. ⌜ Drives (now (instance .entry)) (now (t .entry)) (now (calls .entry)) (now (out .entry)) (now (target .entry)) (record { answer = r; table = now (t .exit); out = now (out .exit); target = now (target .exit) }) ⌝ }
 {
     let coded = encoding::encode(instance, t);
     if coded.number != 0 {

@@ -7,7 +7,7 @@ use mathlib.Core.Bool.{true, cond}
 use mathlib.Core.List.{List}
 use lib.ListN.{length}
 use borrow.Author.Tests.{eq-eqb, ne-eqb}
-use Rattle.input.specs.declared.Answer.{Answer}
+use Rattle.fields.specs.declared.Answer.{Answer}
 use Rattle.input.specs.Instance.{instanceFault, sizesOf}
 use Rattle.table.specs.declared.Shape.{Shape}
 use Rattle.table.specs.declared.Checked.{Checked}
@@ -16,22 +16,22 @@ use Rattle.table.specs.Layout.{tableWords}
 use Rattle.table.specs.Meaning.{variablesOf, rowCount, tableRows, domains}
 use Rattle.table.specs.Valid.{validTable}
 use Rattle.table.specs.Check.{shapeOf, checkTable, capacityOf}
+use Rattle.table.proofs.Tested.{table-valid, table-invalid}
+use Rattle.table.proofs.Held.{Held}
 use Rattle.encoding.specs.Calls.{encodedRows, encodeCall}
-use Rattle.resolution.proofs.Single.{table-valid, table-invalid}
 use Rattle.checker.specs.declared.CheckAnswer.{CheckAnswer}
 use Rattle.checker.specs.declared.Outcome.{Outcome}
 use Rattle.checker.specs.Replay.{Replayed, replay}
 use Rattle.checker.specs.Calls.{claimHolds, judged, checkCall}
-use Rattle.checker.proofs.Instances.{accepted-few}
-use Rattle.checker.proofs.Kept.{Coded, coded, coded-table, encode-refused, encoded-keeps, keeps-holdable}
-use Rattle.checker.proofs.Claims.{replayed, replayed-ended, check-judged}
-use Rattle.checker.proofs.Holding.{Held, held}
+use Rattle.checker.proofs.Encoded.{GoodEncoding, coded, coded-table, encode-refused}
+use Rattle.checker.proofs.Replaying.{left-held}
+use Rattle.checker.proofs.Claims.{replayed, coded-takes, encoded-left, replayed-ended, check-judged}
 use Rattle.checker.proofs.Going.{Replays}
 
 module _ (inst derivation plan : List ℕ) (claimed : ℕ) (t : List ℕ) where
   -- what the check must give back
   abbrev pub Checks : CheckAnswer → List ℕ → Type 0
-  Checks r t′ = (r ≡ checkCall inst derivation plan claimed t .answer) × (t′ ≡ checkCall inst derivation plan claimed t .table)
+  Checks r t′ = record { answer = r; table = t′ } ≡ checkCall inst derivation plan claimed t
 
   -- the replay of the words on the encoding's rows
   abbrev whole : Replayed
@@ -43,20 +43,18 @@ module _ (inst derivation plan : List ℕ) (claimed : ℕ) (t : List ℕ) where
     check-refused n =
         let h : encodeCall inst t .answer .number ≡ 0 → ⊥ = λ q. n (ap (λ a. a .number) e ∙ q) in
         let b = ne-eqb (encodeCall inst t .answer .number) 0 h in
-        (rw b (ap (λ a. record { number = a .number; steps = 0 }) e), rw b (f ∙ encode-refused inst t h))
+        let l = f ∙ encode-refused inst t h in
+        rw b (λ i. record { answer = record { number = e i .number; steps = 0 }; table = l i })
 
     module _ (n : coding .number ≡ 0) where
       good-number : encodeCall inst t .answer .number ≡ 0
       good-number = sym (ap (λ a. a .number) e) ∙ n
 
-      found : Coded inst t
+      found : GoodEncoding inst t
       found = coded inst t good-number
 
       first : Held t₁ (length t) (sizesOf inst) (encodedRows inst)
-      first =
-          held t₁ (length t) (sizesOf inst) (encodedRows inst)
-          (keeps-holdable inst (found .accepted) (encodedRows inst) (encoded-keeps inst (found .accepted)) (length t) (found .room) (found .fits))
-          (f ∙ coded-table inst t found)
+      first = left-held (coded-takes inst t found) (encoded-left inst t found) (f ∙ coded-table inst t found)
 
       module _ {checked : Checked} (g : checked ≡ checkTable t₁) where
         pub never-invalid : checked ≡ Invalid → ⊥
@@ -74,30 +72,27 @@ module _ (inst derivation plan : List ℕ) (claimed : ℕ) (t : List ℕ) where
           shape-variables = ap (λ s. s .variables) (replay-asks .1) ∙ first .variables
 
           pub few-variables : shape .variables ≤ 12
-          few-variables = omega (arith, shape-variables, accepted-few inst (found .accepted))
+          few-variables = omega (arith, shape-variables, coded-takes inst t found .sizes .most)
 
           module _ {done : Outcome} {t₂ : List ℕ} (r : Replays t₁ derivation done t₂) where
             same : replay (domains t₁) (capacityOf t₁) (tableRows t₁) 0 derivation ≡ whole
             same = rw (first .domained, first .capacious, first .rows)
 
             done-is : done ≡ record { number = whole .number; steps = whole .steps; count = length (whole .rows) }
-            done-is = rw same at (r .0)
+            done-is = rw same at (ap (λ x. x .answer) r)
 
             table-is : t₂ ≡ tableWords (length t) (sizesOf inst) (whole .rows)
-            table-is = rw same at (r .1) ∙ ap₂ (λ n s. tableWords n s (whole .rows)) (first .long) (first .sizes)
+            table-is = rw same at (ap (λ x. x .table) r) ∙ ap₂ (λ n s. tableWords n s (whole .rows)) (first .long) (first .sizes)
 
             second : Held t₂ (length t) (sizesOf inst) (whole .rows)
-            second =
-                let l = replayed-ended inst t derivation found .left in
-                held t₂ (length t) (sizesOf inst) (whole .rows)
-                (keeps-holdable inst (found .accepted) (whole .rows) (l .keeps) (length t) (found .room) (l .fits)) table-is
+            second = left-held (coded-takes inst t found) (replayed-ended inst t found derivation .left) table-is
 
             pub check-stopped : (done .number ≡ 0 → ⊥) → Checks (record { number = done .number; steps = done .steps }) t₂
             unfolding judged
             check-stopped m =
                 let b = ne-eqb (whole .number) 0 (λ z. m (ap (λ d. d .number) done-is ∙ z)) in
                 let j = check-judged inst derivation plan claimed t good-number in
-                (rw (j, b) (ap (λ d. record { number = d .number; steps = d .steps }) done-is), rw j table-is)
+                rw (j, b) (λ i. record { answer = record { number = done-is i .number; steps = done-is i .steps }; table = table-is i })
 
             pub judge-asks : (instanceFault inst ≡ 0) × (validTable t₂ ≡ true) × (shape .variables + 2 ≡ variablesOf t₂ + 2) × (done .count ≡ rowCount t₂)
             judge-asks = (
@@ -115,4 +110,4 @@ module _ (inst derivation plan : List ℕ) (claimed : ℕ) (t : List ℕ) where
                 let j = check-judged inst derivation plan claimed t good-number in
                 let a : number ≡ cond (claimHolds inst plan claimed (whole .rows)) 0 7 = rw (second .rows) at p in
                 let s : done .steps ≡ whole .steps = ap (λ d. d .steps) done-is in
-                (rw (j, b) (λ i. record { number = a i; steps = s i }), rw j table-is)
+                rw (j, b) (λ i. record { answer = record { number = a i; steps = s i }; table = table-is i })

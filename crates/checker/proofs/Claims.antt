@@ -11,17 +11,20 @@ use borrow.Author.Tests.{eqb-true, eqb-false, eq-eqb}
 use Rattle.wcsp.specs.Row.{Row, emptyWeight}
 use Rattle.wcsp.specs.Entry.{cost}
 use Rattle.wcsp.proofs.Lists.{and-left, and-right}
-use Rattle.input.specs.Instance.{maxVariables, instanceFault, sizesOf, entriesOf, padded}
-use Rattle.input.specs.Calls.{isAssignment}
-use Rattle.input.proofs.Padding.{in-range-of}
+use Rattle.fields.specs.Limits.{maxVariables}
+use Rattle.fields.specs.Padding.{padded}
+use Rattle.fields.specs.Assignment.{isAssignment}
+use Rattle.fields.proofs.Assigning.{in-range-of}
+use Rattle.input.specs.Instance.{instanceFault, sizesOf, entriesOf}
 use Rattle.table.specs.Layout.{capacity, tableWords}
-use Rattle.table.proofs.Canonical.{writtenReadsBack}
 use Rattle.encoding.specs.Calls.{encodedRows, encodeCall}
 use Rattle.checker.specs.Replay.{Replayed, replay}
 use Rattle.checker.specs.Calls.{claimHolds, judged, checkCall}
 use Rattle.checker.specs.Theorems.{Best, AcceptedIsLeast, LeftConserves}
-use Rattle.checker.proofs.Kept.{Coded, coded, encoded-keeps, keeps-cost, keeps-below, keeps-holdable}
-use Rattle.checker.proofs.Replaying.{Left, Ended, replay-ended}
+use Rattle.checker.proofs.Instances.{accepted-sizes, accepted-entries}
+use Rattle.checker.proofs.Encoded.{GoodEncoding, coded}
+use Rattle.checker.proofs.Kept.{Takes, Keeps, encoded-keeps, keeps-cost, keeps-below}
+use Rattle.checker.proofs.Replaying.{Left, left-held, Ended, replay-ended}
 
 -- the replay that the check makes
 abbrev pub replayed : List ℕ → List ℕ → List ℕ → Replayed
@@ -53,26 +56,27 @@ claim inst plan claimed rs e =
       costs = eqb-true claimed (cost (entriesOf inst) plan) (and-right (a && b) c e);
     }
 
-pub replayed-ended : (inst t derivation : List ℕ) → Coded inst t
-    → Ended inst (capacity (length t) (length (sizesOf inst))) (replayed inst t derivation)
-replayed-ended inst t derivation c =
-    replay-ended inst (c .accepted) (capacity (length t) (length (sizesOf inst))) derivation (encodedRows inst) 0
-    (record { keeps = encoded-keeps inst (c .accepted); fits = c .fits })
+module _ (inst t : List ℕ) (c : GoodEncoding inst t) where
+  pub coded-takes : Takes (length t) (sizesOf inst) (entriesOf inst)
+  coded-takes =
+      record { sizes = accepted-sizes inst (c .accepted); entries = accepted-entries inst (c .accepted); room = c .room }
 
-claim-accepted : (inst plan : List ℕ) (claimed cap : ℕ) (rs : List Row) → instanceFault inst ≡ 0 → Left inst cap rs
-    → Claim inst plan claimed rs → Best inst plan claimed
-claim-accepted inst plan claimed cap rs a l k =
-    let r = in-range-of (sizesOf inst) plan (k .assigned) in
+  -- the encoding's rows keep the instance, and fit
+  pub encoded-left : Left (sizesOf inst) (entriesOf inst) (capacity (length t) (length (sizesOf inst))) (encodedRows inst)
+  encoded-left = record { keeps = encoded-keeps (coded-takes .sizes) (coded-takes .entries); fits = c .fits }
+
+  pub replayed-ended : (derivation : List ℕ)
+      → Ended (sizesOf inst) (entriesOf inst) (capacity (length t) (length (sizesOf inst))) (replayed inst t derivation)
+  replayed-ended derivation =
+      replay-ended (coded-takes .entries) (capacity (length t) (length (sizesOf inst))) derivation (encodedRows inst) 0 encoded-left
+
+claim-accepted : (inst plan : List ℕ) (claimed : ℕ) {rs : List Row} → instanceFault inst ≡ 0 → Keeps (sizesOf inst) (entriesOf inst) rs
+    → Claim inst plan claimed rs → Best (sizesOf inst) (entriesOf inst) plan claimed
+claim-accepted inst plan claimed a k h =
     record {
-      inRange = r;
-      attained = sym (k .costs);
-      isLeast =
-          record {
-            assignment = plan;
-            inRange = r;
-            attained = sym (k .costs);
-            least = λ p q. let b = keeps-below inst a rs (l .keeps) p q in rw (k .empty) b;
-          };
+      inRange = in-range-of (sizesOf inst) plan (h .assigned);
+      attained = sym (h .costs);
+      least = rw (h .empty) (keeps-below k (accepted-sizes inst a));
     }
 
 pub acceptedIsLeast : AcceptedIsLeast
@@ -82,18 +86,17 @@ acceptedIsLeast inst derivation plan claimed t e = coding (eqb (encodeCall inst 
     done : Replayed
     done = replayed inst t derivation
 
-    judging : Coded inst t → (a b : Bool) → claimHolds inst plan claimed (done .rows) ≡ b → eqb (done .number) 0 ≡ a
-        → cond a (cond b 0 7) (done .number) ≡ 0 → Best inst plan claimed
+    judging : GoodEncoding inst t → (a b : Bool) → claimHolds inst plan claimed (done .rows) ≡ b → eqb (done .number) 0 ≡ a
+        → cond a (cond b 0 7) (done .number) ≡ 0 → Best (sizesOf inst) (entriesOf inst) plan claimed
     judging c true true f h n =
-        claim-accepted inst plan claimed (capacity (length t) (length (sizesOf inst))) (done .rows) (c .accepted)
-        (replayed-ended inst t derivation c .left) (claim inst plan claimed (done .rows) f)
+        claim-accepted inst plan claimed (c .accepted) (replayed-ended inst t c derivation .left .keeps) (claim inst plan claimed (done .rows) f)
     judging c true false f h n = absurd (omega arith)
     judging c false b f h n = absurd (eqb-false (done .number) 0 h n)
 
     coding : (a : Bool) → eqb (encodeCall inst t .answer .number) 0 ≡ a
         → cond a (judged inst plan claimed (length t) done)
         (record { answer = record { number = encodeCall inst t .answer .number; steps = 0 }; table = t }) .answer .number
-        ≡ 0 → Best inst plan claimed
+        ≡ 0 → Best (sizesOf inst) (entriesOf inst) plan claimed
     coding true h n =
         judging (coded inst t (eqb-true (encodeCall inst t .answer .number) 0 h)) (eqb (done .number) 0)
         (claimHolds inst plan claimed (done .rows)) refl refl n
@@ -103,9 +106,7 @@ pub leftConserves : LeftConserves
 unfolding judged
 leftConserves inst derivation plan claimed t p e r =
     let c = coded inst t e in
-    let rs = replayed inst t derivation .rows in
-    let l = replayed-ended inst t derivation c .left in
-    let h = keeps-holdable inst (c .accepted) rs (l .keeps) (length t) (c .room) (l .fits) in
-    let left : checkCall inst derivation plan claimed t .table ≡ tableWords (length t) (sizesOf inst) rs
+    let l = replayed-ended inst t c derivation .left in
+    let left : checkCall inst derivation plan claimed t .table ≡ tableWords (length t) (sizesOf inst) (replayed inst t derivation .rows)
     = ap (λ k. k .table) (check-judged inst derivation plan claimed t e) in
-    rw (left, writtenReadsBack (length t) (sizesOf inst) rs h .rows) (keeps-cost inst (c .accepted) rs (l .keeps) p r)
+    rw (left-held (coded-takes inst t c) l left .rows) (keeps-cost (l .keeps) p r)

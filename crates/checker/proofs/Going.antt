@@ -9,27 +9,26 @@ use lib.ListN.{length, getD, drop, drop-of-length-le}
 use lib.Seq.{drop-cons}
 use Rattle.wcsp.specs.Row.{Row}
 use Rattle.wcsp.specs.Resolve.{Pair, resolve, Permitted}
-use Rattle.words.specs.Meaning.{wordOf}
 use Rattle.clause.specs.declared.Clause.{Clause}
 use Rattle.table.specs.declared.Shape.{Shape}
-use Rattle.table.specs.Layout.{capacity, tableWords}
+use Rattle.table.specs.Layout.{tableWords}
 use Rattle.table.specs.Meaning.{variablesOf, rowCount, tableSizes, tableRows, domains}
 use Rattle.table.specs.Valid.{validTable}
 use Rattle.table.specs.Check.{fullClause, shapeOf, capacityOf}
 use Rattle.table.proofs.Canonical.{validIsCanonical}
-use Rattle.table.proofs.Finishing.{valid-variables, valid-count}
+use Rattle.table.proofs.Finishing.{valid-count}
 use Rattle.stepping.specs.declared.Advanced.{Advanced}
 use Rattle.stepping.specs.declared.Advanced.the-variants.{Made, Refused}
 use Rattle.stepping.specs.Step.{refusing, stepping, allowed}
 use Rattle.stepping.specs.Advance.{withRows, advanceCall}
-use Rattle.resolution.proofs.Single.{advance-made, advance-refused}
+use Rattle.stepping.proofs.Answers.{advance-made, advance-refused}
+use Rattle.stepping.proofs.Following.{following}
 use Rattle.checker.specs.declared.Outcome.{Outcome}
 use Rattle.checker.specs.declared.Named.{Named}
 use Rattle.checker.specs.declared.Named.the-variants.{Pair as Of, Nothing}
-use Rattle.checker.specs.Replay.{namedPair, replayOn, replayWord, Replayed, replayNext, replay}
+use Rattle.checker.specs.Replay.{namedPair, replayOn, replayWord, Replayed, replayNext, replay, replayCall}
 use Rattle.checker.proofs.Replaying.{named-permitted}
-use Rattle.checker.proofs.Naming.{Names}
-use Rattle.checker.proofs.Holding.{stepped}
+use Rattle.checker.proofs.Naming.{Names, nothing-named, pair-named}
 
 -- ---- a replay's next word
 
@@ -39,11 +38,11 @@ module _ (ds : List ℕ) (cap : ℕ) (rs : List Row) (k : ℕ) (ws : List ℕ) w
   replay-ends h = rw (drop-of-length-le ws h)
 
   module _ (h : k < length ws) where
-    replay-unnamed : namedPair ds rs (wordOf (getD ws k 0)) ≡ none → replay ds cap rs k (drop k ws) ≡ record { number = 6; steps = k; rows = rs }
+    replay-unnamed : namedPair ds rs (getD ws k 0) ≡ none → replay ds cap rs k (drop k ws) ≡ record { number = 6; steps = k; rows = rs }
     unfolding replay replayWord replayOn replayNext
     replay-unnamed e = rw (drop-cons ws k 0 h, e)
 
-    module _ (pr : Pair) (e : namedPair ds rs (wordOf (getD ws k 0)) ≡ some pr) where
+    module _ (pr : Pair) (e : namedPair ds rs (getD ws k 0) ≡ some pr) where
       replay-stops : (number : ℕ) → allowed cap pr (resolve ds pr rs) ≡ refusing number
           → replay ds cap rs k (drop k ws) ≡ record { number = number; steps = k; rows = rs }
       unfolding replay replayWord replayOn replayNext
@@ -71,12 +70,7 @@ going-start t ws shape v e =
 
 -- what a replay must give back
 abbrev pub Replays : List ℕ → List ℕ → Outcome → List ℕ → Type 0
-Replays t ws r t′ =
-    (r ≡ record {
-      number = replay (domains t) (capacityOf t) (tableRows t) 0 ws .number;
-      steps = replay (domains t) (capacityOf t) (tableRows t) 0 ws .steps;
-      count = length (replay (domains t) (capacityOf t) (tableRows t) 0 ws .rows);
-    }) × (t′ ≡ withRows t (replay (domains t) (capacityOf t) (tableRows t) 0 ws .rows))
+Replays t ws r t′ = record { answer = r; table = t′ } ≡ replayCall t ws
 
 module _ {t₀ ws t : List ℕ} {count k : ℕ} (g : Going t₀ ws t count k) where
   -- the whole replay
@@ -86,10 +80,10 @@ module _ {t₀ ws t : List ℕ} {count k : ℕ} (g : Going t₀ ws t count k) wh
   gives : (number : ℕ) (t′ : List ℕ) → whole ≡ record { number = number; steps = k; rows = tableRows t } → t′ ≡ t
       → Replays t₀ ws (record { number = number; steps = k; count = count }) t′
   gives number t′ w e =
-      let c : count ≡ length (tableRows t) = g .counted ∙ sym (valid-count t (g .valid)) in (
-        rw w (λ i. record { number = number; steps = k; count = c i }),
-        rw w (e ∙ validIsCanonical t (g .valid) .words ∙ ap₂ (λ n s. tableWords n s (tableRows t)) (g .long) (g .sizes)),
-      )
+      let c : count ≡ length (tableRows t) = g .counted ∙ sym (valid-count t (g .valid)) in
+      let l : t′ ≡ withRows t₀ (tableRows t)
+      = e ∙ validIsCanonical t (g .valid) .words ∙ ap₂ (λ n s. tableWords n s (tableRows t)) (g .long) (g .sizes) in
+      rw w (λ i. record { answer = record { number = number; steps = k; count = c i }; table = l i })
 
   -- the shape that a turn's calls get
   pub shaped : {n : ℕ} → n ≡ variablesOf t₀ → {fulls : Clause} → fulls ≡ fullClause (domains t₀)
@@ -105,19 +99,19 @@ module _ {t₀ ws t : List ℕ} {count k : ℕ} (g : Going t₀ ws t count k) wh
 
   module _ (h : k < length ws) {named : Named} (answer : Names t (getD ws k 0) named) where
     pub gives-unnamed : named ≡ Nothing → Replays t₀ ws (record { number = 6; steps = k; count = count }) t
-    gives-unnamed q = gives 6 t (g .goes ∙ replay-unnamed (domains t) (capacityOf t) (tableRows t) k ws h (answer .1 q)) refl
+    gives-unnamed q = gives 6 t (g .goes ∙ replay-unnamed (domains t) (capacityOf t) (tableRows t) k ws h (nothing-named _ (sym q ∙ answer))) refl
 
     module _ {v i j : ℕ} (q : named ≡ Of v i j) where
       pr : Pair
       pr = record { variable = v; first = i; second = j }
 
-      is-named : namedPair (domains t) (tableRows t) (wordOf (getD ws k 0)) ≡ some pr
+      is-named : namedPair (domains t) (tableRows t) (getD ws k 0) ≡ some pr
       unfolding pr
-      is-named = answer .0 v i j q
+      is-named = pair-named _ v i j (sym q ∙ answer)
 
       pub may-step : Permitted (domains t) (tableRows t) (record { variable = v; first = i; second = j })
       unfolding pr
-      may-step = named-permitted (domains t) (tableRows t) (wordOf (getD ws k 0)) pr is-named
+      may-step = named-permitted (domains t) (tableRows t) (getD ws k 0) pr is-named
 
       module _ {advanced : Advanced} {t′ : List ℕ} (e : advanced ≡ advanceCall t (record { variable = v; first = i; second = j }) .answer)
           (f : t′ ≡ advanceCall t (record { variable = v; first = i; second = j }) .table) where
@@ -132,19 +126,18 @@ module _ {t₀ ws t : List ℕ} {count k : ℕ} (g : Going t₀ ws t count k) wh
             gives number t′ (g .goes ∙ replay-stops (domains t) (capacityOf t) (tableRows t) k ws h pr is-named number (r .0)) (r .1)
 
         pub going-on : {now old : ℕ} → advanced ≡ Made now old → Going t₀ ws t′ now (k + 1)
-        unfolding pr domains
+        unfolding pr
         going-on {now} {old} a =
             let m = advance-made t pr advanced t′ e f now old a in
-            let s = stepped t (g .valid) pr may-step now old t′ m in
-            let d : domains t′ ≡ domains t = s .domained in
+            let s = following t (g .valid) pr may-step now old t′ m in
+            let d = s .domained in
             let r = s .rows in
-            let n : length (tableSizes t) ≡ variablesOf t = valid-variables t (g .valid) in
-            let c : capacityOf t′ ≡ capacityOf t = s .capacious ∙ ap (capacity (length t)) n in
+            let c = s .capacious in
             record {
               valid = s .valid;
               long = s .long ∙ g .long;
               sizes = s .sizes ∙ g .sizes;
-              variables = s .variables ∙ n ∙ g .variables;
+              variables = s .variables ∙ g .variables;
               domained = d ∙ g .domained;
               counted = m .counted ∙ sym (s .counted);
               goes = g .goes ∙ rw (add-one, d, r, c)

@@ -1,36 +1,37 @@
--- An accepted instance as tables and the theory ask for it: sizes that a table can have, and over twelve variables positive sizes,
--- well-formed entries and bounded costs.
-use Prim.Native.Nat.{ℕ, _≤_}
+-- Sizes and entries of a field as the theory asks for them over twelve variables: positive sizes and well-formed entries. An accepted instance has such.
+use Prim.Native.Nat.{ℕ}
+use native.Mathlib.Omega.{arith}
 use mathlib.Core.Path.{_≡_}
 use mathlib.Core.List.{List}
+use mathlib.Core.Option.{some}
 use lib.ListN.{length}
 use Rattle.wcsp.specs.Clause.{AllPositive}
-use Rattle.wcsp.specs.Entry.{WellFormed, cost}
-use Rattle.input.specs.Instance.{maxValues, instanceFault, sizesOf, entriesOf, padded}
-use Rattle.input.specs.Accepted.{Each, nilEach, consEach}
-use Rattle.input.proofs.Acceptance.{accepted}
-use Rattle.input.proofs.Padding.{positive-padded, well-formed-padded}
-use Rattle.table.specs.Check.{Sizes, nilSizes, consSizes}
+use Rattle.wcsp.specs.Entry.{Entry, WellFormed}
+use Rattle.words.specs.Layout.{headWord}
+use Rattle.fields.specs.Front.{headIn}
+use Rattle.fields.specs.Padding.{padded}
+use Rattle.fields.specs.Entries.{FieldSizes, Entries}
+use Rattle.fields.proofs.Fronts.{head-is}
+use Rattle.fields.proofs.Padding.{padded-length, positive-padded, well-formed-padded}
+use Rattle.input.specs.Instance.{instanceFault, sizesOf, entriesOf}
+use Rattle.input.proofs.Acceptance.{accepted-instance}
 
-each-sizes : {ds : List ℕ} → Each (λ d. (1 ≤ d) × (d ≤ maxValues)) ds → Sizes ds
-each-sizes nilEach = nilSizes
-each-sizes (consEach h r) = consSizes (h .0) (h .1) (each-sizes r)
+pub twelve : {ds : List ℕ} → FieldSizes ds → length (padded ds) ≡ 12
+twelve {ds} s = padded-length ds (s .most)
+
+pub positive : {ds : List ℕ} → FieldSizes ds → AllPositive (padded ds)
+positive s = positive-padded (s .positive)
+
+pub formed : {ds : List ℕ} {es : List Entry} → Entries ds 0 es → WellFormed (padded ds) es
+formed n = well-formed-padded (n .wellFormed)
 
 module _ (inst : List ℕ) (e : instanceFault inst ≡ 0) where
-  pub accepted-some : 1 ≤ length (sizesOf inst)
-  accepted-some = accepted inst e .sizes .least
+  pub accepted-sizes : FieldSizes (sizesOf inst)
+  accepted-sizes = accepted-instance inst e .sizes
 
-  pub accepted-few : length (sizesOf inst) ≤ 12
-  accepted-few = accepted inst e .sizes .most
+  pub accepted-entries : Entries (sizesOf inst) 0 (entriesOf inst)
+  accepted-entries = accepted-instance inst e .entries
 
-  pub accepted-sizes : Sizes (sizesOf inst)
-  accepted-sizes = each-sizes (accepted inst e .sizes .each)
-
-  pub accepted-positive : AllPositive (padded (sizesOf inst))
-  accepted-positive = positive-padded (accepted inst e .sizes .positive)
-
-  pub accepted-formed : WellFormed (padded (sizesOf inst)) (entriesOf inst)
-  accepted-formed = well-formed-padded (accepted inst e .entries .wellFormed)
-
-  pub accepted-costs : (p : List ℕ) → cost (entriesOf inst) p ≤ 268431360
-  accepted-costs = accepted inst e .bounded
+-- a head with the number of these sizes is one
+pub head-given : {ds : List ℕ} → FieldSizes ds → headIn (headWord (length ds)) ≡ some (length ds)
+head-given {ds} s = head-is (headWord (length ds)) (length ds) (omega (arith, s .most)) (omega (arith, s .most)) (s .least) (s .most)

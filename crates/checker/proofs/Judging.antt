@@ -7,9 +7,12 @@ use mathlib.Core.List.{List}
 use borrow.Author.Tests.{eq-eqb, ne-eqb}
 use Rattle.wcsp.specs.Row.{Row, emptyWeight}
 use Rattle.wcsp.specs.Entry.{cost}
-use Rattle.input.specs.declared.Answer.{Answer}
-use Rattle.input.specs.Instance.{maxVariables, instanceFault, sizesOf, entriesOf}
-use Rattle.input.specs.Calls.{refused, good, isAssignment, costCall}
+use Rattle.fields.specs.declared.Answer.{Answer}
+use Rattle.fields.specs.Limits.{maxVariables}
+use Rattle.fields.specs.Answers.{refused, good}
+use Rattle.fields.specs.Assignment.{isAssignment}
+use Rattle.cost.specs.Calls.{costCall}
+use Rattle.input.specs.Instance.{instanceFault, sizesOf, entriesOf}
 use Rattle.checker.specs.Calls.{claimHolds}
 
 module _ (inst plan : List ℕ) (accepted : instanceFault inst ≡ 0) (priced : Answer) (e : priced ≡ costCall inst plan) where

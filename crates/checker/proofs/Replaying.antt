@@ -7,19 +7,21 @@ use mathlib.Core.Bool.{Bool, true, false, _&&_, cond}
 use mathlib.Core.List.{List, [], _∷_}
 use mathlib.Core.Option.{Option, none, some}
 use lib.ListN.{length, getD}
-use lib.Dec.{ltb}
+use lib.Dec.{eqb, ltb}
 use borrow.Author.Tests.{ltb-true, ltb-false, lt-ltb}
 use Rattle.wcsp.specs.Row.{Row}
+use Rattle.wcsp.specs.Entry.{Entry}
 use Rattle.wcsp.specs.Rule.{permitted}
 use Rattle.wcsp.specs.Resolve.{Pair, noRow, resolve, Permitted}
 use Rattle.wcsp.proofs.Lists.{and-left, and-right}
-use Rattle.words.specs.declared.Word.{Word}
-use Rattle.words.specs.declared.Word.the-variants.{Head, Size, Binding, Cost, Signs, Weight, Step, Easting, Northing, Count, Unknown}
-use Rattle.words.specs.Meaning.{wordOf}
-use Rattle.input.specs.Instance.{instanceFault, sizesOf, padded}
+use Rattle.words.specs.Layout.{kindOf, stepVariableIn, firstRowIn, secondRowIn}
+use Rattle.fields.specs.Padding.{padded}
+use Rattle.fields.specs.Entries.{Entries}
+use Rattle.table.specs.Layout.{capacity, tableWords}
+use Rattle.table.proofs.Held.{Held, held}
 use Rattle.stepping.specs.Step.{Stepping, refusing, stepping, allowed}
 use Rattle.checker.specs.Replay.{permittedPair, namedPair, replayOn, replayWord, Replayed, replayNext, replay}
-use Rattle.checker.proofs.Kept.{Keeps, step-keeps, keeps-light}
+use Rattle.checker.proofs.Kept.{Takes, Keeps, step-keeps, keeps-light, keeps-holdable}
 
 -- ---- the pair that a word names
 
@@ -57,22 +59,19 @@ module _ (ds : List ℕ) (rs : List Row) where
           })
       go false e = noPair
 
-  named-view : (w : Word) → PairView ds rs (namedPair ds rs w)
+  named-view : (w : ℕ) → PairView ds rs (namedPair ds rs w)
   unfolding namedPair
-  named-view (Head n) = noPair
-  named-view (Size d) = noPair
-  named-view (Binding v a) = noPair
-  named-view (Cost c) = noPair
-  named-view (Signs k x) = noPair
-  named-view (Weight w) = noPair
-  named-view (Step s i j) = pair-view (record { variable = s; first = i; second = j })
-  named-view (Easting p) = noPair
-  named-view (Northing p) = noPair
-  named-view (Count k) = noPair
-  named-view Unknown = noPair
+  named-view w = go (eqb (kindOf w) 7)
+    where
+      pr : Pair
+      pr = record { variable = stepVariableIn w; first = firstRowIn w; second = secondRowIn w }
+
+      go : (b : Bool) → PairView ds rs (cond b (permittedPair ds rs pr) none)
+      go true = pair-view pr
+      go false = noPair
 
   -- a named pair is permitted
-  pub named-permitted : (w : Word) (pr : Pair) → namedPair ds rs w ≡ some pr → Permitted ds rs pr
+  pub named-permitted : (w : ℕ) (pr : Pair) → namedPair ds rs w ≡ some pr → Permitted ds rs pr
   named-permitted w pr e = go _ (named-view w) e
     where
       pair-in : Option Pair → Pair
@@ -91,62 +90,67 @@ module _ (ds : List ℕ) (rs : List Row) where
 
 -- ---- what a word comes to
 
-pub record Left (inst : List ℕ) (cap : ℕ) (rs : List Row) : Type 0 where
-  pub keeps : Keeps inst rs
+pub record Left (ds : List ℕ) (es : List Entry) (cap : ℕ) (rs : List Row) : Type 0 where
+  pub keeps : Keeps ds es rs
   pub fits : length rs ≤ cap
 
+-- a slice in which such rows are written
+pub left-held : {len : ℕ} {ds : List ℕ} {es : List Entry} → Takes len ds es → {t : List ℕ} {rs : List Row} → Left ds es (capacity len (length ds)) rs
+    → t ≡ tableWords len ds rs → Held t len ds rs
+left-held {len} {ds} a {t} {rs} l e = held t len ds rs (keeps-holdable (l .keeps) a (l .fits)) e
+
 -- what a replay comes to: rows that keep the instance and fit, and a number other than 11
-pub record Ended (inst : List ℕ) (cap : ℕ) (done : Replayed) : Type 0 where
-  pub left : Left inst cap (done .rows)
+pub record Ended (ds : List ℕ) (es : List Entry) (cap : ℕ) (done : Replayed) : Type 0 where
+  pub left : Left ds es cap (done .rows)
   pub never : done .number ≡ 11 → ⊥
 
 data WordView (ds : List ℕ) (cap : ℕ) (rs : List Row) : Stepping → Type 0 where
   refused : {k : ℕ} → (k ≡ 11 → ⊥) → WordView ds cap rs (refusing k)
   made : {pr : Pair} → Permitted ds rs pr → length (resolve ds pr rs) ≤ cap → WordView ds cap rs (stepping pr (resolve ds pr rs))
 
-module _ (inst : List ℕ) (accepted : instanceFault inst ≡ 0) (cap : ℕ) where
-  module _ {rs : List Row} (k : Keeps inst rs) where
+module _ {ds : List ℕ} {es : List Entry} (n : Entries ds 0 es) (cap : ℕ) where
+  module _ {rs : List Row} (k : Keeps ds es rs) where
     -- 11 never: only the room is asked for
-    pub allowed-room : (pr : Pair) → Permitted (padded (sizesOf inst)) rs pr
-        → allowed cap pr (resolve (padded (sizesOf inst)) pr rs)
-        ≡ cond (ltb cap (length (resolve (padded (sizesOf inst)) pr rs))) (refusing 12) (stepping pr (resolve (padded (sizesOf inst)) pr rs))
+    pub allowed-room : (pr : Pair) → Permitted (padded ds) rs pr
+        → allowed cap pr (resolve (padded ds) pr rs)
+        ≡ cond (ltb cap (length (resolve (padded ds) pr rs))) (refusing 12) (stepping pr (resolve (padded ds) pr rs))
     unfolding allowed
     allowed-room pr m =
-        let rs′ = resolve (padded (sizesOf inst)) pr rs in
-        rw (keeps-light inst accepted rs′ (step-keeps inst accepted rs k pr m))
+        let rs′ = resolve (padded ds) pr rs in
+        rw (keeps-light (step-keeps k pr m) n)
 
-    allowed-view : (pr : Pair) → Permitted (padded (sizesOf inst)) rs pr
-        → WordView (padded (sizesOf inst)) cap rs (allowed cap pr (resolve (padded (sizesOf inst)) pr rs))
+    allowed-view : (pr : Pair) → Permitted (padded ds) rs pr
+        → WordView (padded ds) cap rs (allowed cap pr (resolve (padded ds) pr rs))
     allowed-view pr m = rw (allowed-room pr m) (go (ltb cap (length rs′)) refl)
       where
         rs′ : List Row
-        rs′ = resolve (padded (sizesOf inst)) pr rs
+        rs′ = resolve (padded ds) pr rs
 
-        go : (b : Bool) → ltb cap (length rs′) ≡ b → WordView (padded (sizesOf inst)) cap rs (cond b (refusing 12) (stepping pr rs′))
+        go : (b : Bool) → ltb cap (length rs′) ≡ b → WordView (padded ds) cap rs (cond b (refusing 12) (stepping pr rs′))
         go true e = refused (λ (z : _≡_ {A = ℕ} 12 11). omega arith)
         go false e = made m (ltb-false cap (length rs′) e)
 
-    word-view : (w : ℕ) → WordView (padded (sizesOf inst)) cap rs (replayWord (padded (sizesOf inst)) cap rs w)
+    word-view : (w : ℕ) → WordView (padded ds) cap rs (replayWord (padded ds) cap rs w)
     unfolding replayWord replayOn
-    word-view w = go _ (named-view (padded (sizesOf inst)) rs (wordOf w))
+    word-view w = go _ (named-view (padded ds) rs w)
       where
-        go : (o : Option Pair) → PairView (padded (sizesOf inst)) rs o
-            → WordView (padded (sizesOf inst)) cap rs (replayOn (padded (sizesOf inst)) cap rs o)
+        go : (o : Option Pair) → PairView (padded ds) rs o
+            → WordView (padded ds) cap rs (replayOn (padded ds) cap rs o)
         go none noPair = refused (λ (z : _≡_ {A = ℕ} 6 11). omega arith)
         go (some pr) (onPair m) = allowed-view pr m
 
   -- ---- the whole replay
 
-  pub replay-ended : (ws : List ℕ) (rs : List Row) (k : ℕ) → Left inst cap rs → Ended inst cap (replay (padded (sizesOf inst)) cap rs k ws)
+  pub replay-ended : (ws : List ℕ) (rs : List Row) (k : ℕ) → Left ds es cap rs → Ended ds es cap (replay (padded ds) cap rs k ws)
   unfolding replay replayNext
   replay-ended [] rs k l = record { left = l; never = λ (z : _≡_ {A = ℕ} 0 11). omega arith }
   replay-ended (w ∷ ws) rs k l = go _ (word-view (l .keeps) w) (λ rs′ l′. replay-ended ws rs′ (suc k) l′)
     where
-      go : (s : Stepping) → WordView (padded (sizesOf inst)) cap rs s
-          → ((rs′ : List Row) → Left inst cap rs′ → Ended inst cap (replay (padded (sizesOf inst)) cap rs′ (suc k) ws))
-          → Ended inst cap
+      go : (s : Stepping) → WordView (padded ds) cap rs s
+          → ((rs′ : List Row) → Left ds es cap rs′ → Ended ds es cap (replay (padded ds) cap rs′ (suc k) ws))
+          → Ended ds es cap
           (replayNext (record { number = 6; steps = k; rows = rs }) (λ number. record { number = number; steps = k; rows = rs })
-          (λ rs′. replay (padded (sizesOf inst)) cap rs′ (suc k) ws) s)
-      go (refusing n) (refused f) ih = record { left = l; never = f }
+          (λ rs′. replay (padded ds) cap rs′ (suc k) ws) s)
+      go (refusing number) (refused f) ih = record { left = l; never = f }
       go (stepping pr rs′) (made m f) ih =
-          ih rs′ (record { keeps = step-keeps inst accepted rs (l .keeps) pr m; fits = f })
+          ih rs′ (record { keeps = step-keeps (l .keeps) pr m; fits = f })

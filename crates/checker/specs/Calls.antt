@@ -1,15 +1,17 @@
 -- The check call: its answer and its work table, for accepted and refused claims alike.
-use Prim.Native.Nat.{ℕ, zero, suc}
+use Prim.Native.Nat.{ℕ}
 use mathlib.Core.Bool.{Bool, _&&_, cond}
 use mathlib.Core.List.{List}
 use lib.ListN.{length}
 use lib.Dec.{eqb}
 use Rattle.wcsp.specs.Row.{Row, emptyWeight}
 use Rattle.wcsp.specs.Entry.{cost}
-use Rattle.input.specs.Instance.{maxVariables, sizesOf, entriesOf, padded}
-use Rattle.input.specs.Calls.{isAssignment}
+use Rattle.fields.specs.Limits.{maxVariables}
+use Rattle.fields.specs.Padding.{padded}
+use Rattle.fields.specs.Assignment.{isAssignment}
+use Rattle.input.specs.Instance.{sizesOf, entriesOf}
 use Rattle.table.specs.Layout.{capacity, tableWords}
-use Rattle.encoding.specs.Calls.{Returned, encodedRows, encodeCall}
+use Rattle.encoding.specs.Calls.{encodedRows, encodeCall}
 use Rattle.checker.specs.declared.CheckAnswer.{CheckAnswer}
 use Rattle.checker.specs.Replay.{Replayed, replay}
 

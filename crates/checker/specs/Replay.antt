@@ -1,17 +1,20 @@
--- The replay of step words on rows: each word may name any permitted pair.
-use Prim.Native.Nat.{ℕ, zero, suc}
+-- The replay of step words on rows, each naming any permitted pair, and in a table.
+use Prim.Native.Nat.{ℕ, suc}
 use mathlib.Core.Bool.{_&&_, cond}
 use mathlib.Core.List.{List, [], _∷_}
 use mathlib.Core.Option.{Option, none, some}
 use lib.ListN.{length, getD}
-use lib.Dec.{ltb}
+use lib.Dec.{eqb, ltb}
 use Rattle.wcsp.specs.Row.{Row}
 use Rattle.wcsp.specs.Rule.{permitted}
 use Rattle.wcsp.specs.Resolve.{Pair, noRow, resolve}
-use Rattle.words.specs.declared.Word.{Word}
-use Rattle.words.specs.declared.Word.the-variants.{Head, Size, Binding, Cost, Signs, Weight, Step, Easting, Northing, Count, Unknown}
-use Rattle.words.specs.Meaning.{wordOf}
+use Rattle.words.specs.Layout.{kindOf, stepVariableIn, firstRowIn, secondRowIn}
+use Rattle.table.specs.Meaning.{tableRows, domains}
+use Rattle.table.specs.Check.{capacityOf}
 use Rattle.stepping.specs.Step.{Stepping, finished, refusing, stepping, allowed}
+use Rattle.stepping.specs.Advance.{withRows}
+use Rattle.checker.specs.declared.Named.{Named}
+use Rattle.checker.specs.declared.Outcome.{Outcome}
 
 -- the pair of a step word, if it is a permitted one: variable known, first row below the second, both in the table
 unfoldable pub permittedPair : List ℕ → List Row → Pair → Option Pair
@@ -22,19 +25,16 @@ permittedPair ds rs pr =
     (some pr)
     none
 
-unfoldable pub namedPair : List ℕ → List Row → Word → Option Pair
+-- the pair that a word names: none unless it is a step word
+unfoldable pub namedPair : List ℕ → List Row → ℕ → Option Pair
 unfolding permittedPair
-namedPair ds rs (Head n) = none
-namedPair ds rs (Size d) = none
-namedPair ds rs (Binding v a) = none
-namedPair ds rs (Cost c) = none
-namedPair ds rs (Signs k x) = none
-namedPair ds rs (Weight w) = none
-namedPair ds rs (Step s i j) = permittedPair ds rs (record { variable = s; first = i; second = j })
-namedPair ds rs (Easting p) = none
-namedPair ds rs (Northing p) = none
-namedPair ds rs (Count k) = none
-namedPair ds rs Unknown = none
+namedPair ds rs w =
+    cond (eqb (kindOf w) 7) (permittedPair ds rs (record { variable = stepVariableIn w; first = firstRowIn w; second = secondRowIn w })) none
+
+-- the pair that a word names, as the code has it
+unfoldable pub namedOf : Option Pair → Named
+namedOf none = Named.Nothing
+namedOf (some pr) = Named.Pair (pr .variable) (pr .first) (pr .second)
 
 -- one step word: 6, 11, 12, or the rows after the step
 unfoldable pub replayOn : List ℕ → ℕ → List Row → Option Pair → Stepping
@@ -43,7 +43,7 @@ replayOn ds cap rs (some pr) = allowed cap pr (resolve ds pr rs)
 
 unfoldable pub replayWord : List ℕ → ℕ → List Row → ℕ → Stepping
 unfolding namedPair replayOn
-replayWord ds cap rs w = replayOn ds cap rs (namedPair ds rs (wordOf w))
+replayWord ds cap rs w = replayOn ds cap rs (namedPair ds rs w)
 
 -- what a replay comes to: a number, 0 if every word was good, the steps replayed, and the rows after the last good one
 pub record Replayed : Type 0 where
@@ -64,3 +64,19 @@ replay ds cap rs k (w ∷ ws) =
     replayNext (record { number = 6; steps = k; rows = rs }) (λ number. record { number = number; steps = k; rows = rs })
     (λ rs′. replay ds cap rs′ (suc k) ws)
     (replayWord ds cap rs w)
+
+-- a replay's answer, and its table as it returns
+pub record ReplayReturned : Type 0 where
+  pub answer : Outcome
+  pub table : List ℕ
+
+abbrev pub replayReturns : List ℕ → Replayed → ReplayReturned
+replayReturns t done =
+    record {
+      answer = record { number = done .number; steps = done .steps; count = length (done .rows) };
+      table = withRows t (done .rows);
+    }
+
+-- the replay of step words in a valid table
+abbrev pub replayCall : List ℕ → List ℕ → ReplayReturned
+replayCall t ws = replayReturns t (replay (domains t) (capacityOf t) (tableRows t) 0 ws)

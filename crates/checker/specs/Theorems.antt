@@ -1,25 +1,26 @@
 -- What an accepted claim means, and what holds of the table that the checker leaves.
-use Prim.Native.Nat.{ℕ}
+use Prim.Native.Nat.{ℕ, _≤_}
 use mathlib.Core.Path.{_≡_}
 use mathlib.Core.List.{List}
 use Rattle.wcsp.specs.Clause.{InRange}
 use Rattle.wcsp.specs.Row.{falsified}
-use Rattle.wcsp.specs.Entry.{cost, LeastCost}
-use Rattle.input.specs.Instance.{sizesOf, entriesOf, paddedValues}
+use Rattle.wcsp.specs.Entry.{Entry, cost}
+use Rattle.fields.specs.Padding.{paddedValues}
+use Rattle.input.specs.Instance.{sizesOf, entriesOf}
 use Rattle.table.specs.Meaning.{tableRows}
 use Rattle.encoding.specs.Calls.{encodeCall}
 use Rattle.checker.specs.Calls.{checkCall}
 
--- a best plan: it is an assignment, and its cost is the bound, which is the least cost
-pub record Best (inst plan : List ℕ) (bound : ℕ) : Type 0 where
-  pub inRange : InRange (sizesOf inst) plan
-  pub attained : cost (entriesOf inst) plan ≡ bound
-  pub isLeast : LeastCost (sizesOf inst) (entriesOf inst) bound
+-- a best plan for these sizes and entries: an assignment whose cost is the bound, and none costs less
+pub record Best (ds : List ℕ) (es : List Entry) (plan : List ℕ) (bound : ℕ) : Type 0 where
+  pub inRange : InRange ds plan
+  pub attained : cost es plan ≡ bound
+  pub least : (p : List ℕ) → InRange ds p → bound ≤ cost es p
 
 -- a claim that the checker accepts: its bytes are a best plan, of the claimed cost
 abbrev pub AcceptedIsLeast : Type 0
 AcceptedIsLeast = (inst derivation plan : List ℕ) (claimed : ℕ) (t : List ℕ)
-    → checkCall inst derivation plan claimed t .answer .number ≡ 0 → Best inst plan claimed
+    → checkCall inst derivation plan claimed t .answer .number ≡ 0 → Best (sizesOf inst) (entriesOf inst) plan claimed
 
 -- accepted or stopped after the encoding: in the table left the falsified weight is the instance's cost, for every assignment
 abbrev pub LeftConserves : Type 0

@@ -1,16 +1,12 @@
 // The checker: it encodes an instance in a work table, replays step words there, each on any permitted pair, and judges the claim.
 ghost use mathlib.Core.Path.{_≡_};
 ghost use mathlib.Core.Bool.{true, cond};
-ghost use mathlib.Core.Option.{none, some};
-ghost use Prim.Native.Nat.{ℕ, _+_};
-ghost use lib.ListN.{length};
-ghost use Rattle.words.specs.Meaning.{wordOf};
+ghost use Prim.Native.Nat.{_+_};
 ghost use Rattle.input.specs.Instance.{instanceFault};
 ghost use Rattle.table.specs.Meaning.{variablesOf, rowCount, tableRows, domains};
 ghost use Rattle.table.specs.Valid.{validTable};
-ghost use Rattle.table.specs.Check.{shapeOf, capacityOf};
-ghost use Rattle.stepping.specs.Advance.{withRows};
-ghost use Rattle.checker.specs.Replay.{namedPair, replay};
+ghost use Rattle.table.specs.Check.{shapeOf};
+ghost use Rattle.checker.specs.Replay.{namedPair, namedOf, replayCall};
 ghost use Rattle.checker.specs.Calls.{claimHolds, checkCall};
 use stepping::Advanced;
 use table::Checked;
@@ -39,7 +35,7 @@ struct Outcome {
 // The permitted pair that a word names on a valid table: variable known, first row below the second, both in the table.
 fn named_pair(t: &[u32], shape: Shape, w: u32) -> Named
     requires { ⌜ (validTable (now t) ≡ true) × (shape ≡ shapeOf (now t)) ⌝ }
-    ensures { λ r. ⌜ ((v i j : ℕ) → r ≡ Named.Pair v i j → namedPair (domains (now (t .entry))) (tableRows (now (t .entry))) (wordOf w) ≡ some (record { variable = v; first = i; second = j })) × (r ≡ Named.Nothing → namedPair (domains (now (t .entry))) (tableRows (now (t .entry))) (wordOf w) ≡ none) ⌝ }
+    ensures { λ r. ⌜ r ≡ namedOf (namedPair (domains (now (t .entry))) (tableRows (now (t .entry))) w) ⌝ }
 {
     let Word::Step(v, first, second) = words::read(w) else {
         return Named::Nothing;
@@ -67,7 +63,7 @@ fn named_pair(t: &[u32], shape: Shape, w: u32) -> Named
 // Each step word in turn on a valid table, up to the first that is refused: 6, 11, 12.
 fn replay_valid(t: &mut [u32], shape: Shape, derivation: &[u32]) -> Outcome
     requires { ⌜ (validTable (now t) ≡ true) × (shape ≡ shapeOf (now t)) ⌝ }
-    ensures { λ r. ⌜ (r ≡ record { number = replay (domains (now (t .entry))) (capacityOf (now (t .entry))) (tableRows (now (t .entry))) 0 (now (derivation .entry)) .number; steps = replay (domains (now (t .entry))) (capacityOf (now (t .entry))) (tableRows (now (t .entry))) 0 (now (derivation .entry)) .steps; count = length (replay (domains (now (t .entry))) (capacityOf (now (t .entry))) (tableRows (now (t .entry))) 0 (now (derivation .entry)) .rows) }) × (now (t .exit) ≡ withRows (now (t .entry)) (replay (domains (now (t .entry))) (capacityOf (now (t .entry))) (tableRows (now (t .entry))) 0 (now (derivation .entry)) .rows)) ⌝ }
+    ensures { λ r. ⌜ record { answer = r; table = now (t .exit) } ≡ replayCall (now (t .entry)) (now (derivation .entry)) ⌝ }
 {
     let n = shape.variables;
     let fulls = shape.fulls;
@@ -110,14 +106,14 @@ fn judge(instance: &[u32], plan: &[u8], claimed: u64, t: &[u32], base: usize, co
     requires { ⌜ (instanceFault (now instance) ≡ 0) × (validTable (now t) ≡ true) × (base ≡ variablesOf (now t) + 2) × (count ≡ rowCount (now t)) ⌝ }
     ensures { λ r. ⌜ r ≡ cond (claimHolds (now (instance .entry)) (now (plan .entry)) claimed (tableRows (now (t .entry)))) 0 7 ⌝ }
 {
-    let priced = input::cost(instance, plan);
+    let priced = cost::cost(instance, plan);
     if priced.number != 0 {
         return 7;
     }
     if claimed != priced.value {
         return 7;
     }
-    if claimed != resolution::empty_weight(t, base, count) {
+    if claimed != table::empty_weight(t, base, count) {
         return 7;
     }
     0
@@ -131,7 +127,7 @@ pub fn check(
     claimed: u64,
     t: &mut [u32],
 ) -> CheckAnswer
-    ensures { λ r. ⌜ (r ≡ checkCall (now (instance .entry)) (now (derivation .entry)) (now (plan .entry)) claimed (now (t .entry)) .answer) × (now (t .exit) ≡ checkCall (now (instance .entry)) (now (derivation .entry)) (now (plan .entry)) claimed (now (t .entry)) .table) ⌝ }
+    ensures { λ r. ⌜ record { answer = r; table = now (t .exit) } ≡ checkCall (now (instance .entry)) (now (derivation .entry)) (now (plan .entry)) claimed (now (t .entry)) ⌝ }
 {
     let encoded = encoding::encode(instance, t);
     if encoded.number != 0 {

@@ -1,7 +1,7 @@
 -- A clause in code: the twelve signs of up to twelve variables, three to a block of 24 bits. Variables that the field lacks have sign 0.
-use Prim.Native.Nat.{ℕ, zero, suc, _<_}
+use Prim.Native.Nat.{ℕ, _<_}
 use mathlib.Core.Path.{_≡_}
-use mathlib.Core.Bool.{Bool, true, false, _||_}
+use mathlib.Core.Bool.{Bool, false, _||_}
 use mathlib.Core.List.{List, [], _∷_, _++_, map}
 use lib.Dec.{eqb}
 use Rattle.wcsp.specs.Sign.{full}

@@ -1,12 +1,8 @@
 // Clauses by value: twelve signs in four blocks of 24 bits, so that union and comparison take four operations and a row's words need no unpacking.
 ghost use mathlib.Core.Path.{_≡_};
-ghost use mathlib.Core.Bool.{Bool};
 ghost use mathlib.Core.List.{List};
 ghost use Prim.Native.Nat.{ℕ, _<_, _≤_, _-_, _/_, _%_, _+_, _*_};
 ghost use lib.ListN.{getD, set, replicate};
-ghost use lib.Bits.{bitAnd};
-ghost use lib.Dec.{eqb};
-ghost use Rattle.wcsp.specs.Sign.{within};
 ghost use Rattle.wcsp.specs.Clause.{ValidClause, tautology, same, bucket};
 ghost use Rattle.wcsp.specs.Rule.{joined, metAt, nested, clashing, permitted};
 ghost use Rattle.words.specs.Layout.{unpacked};

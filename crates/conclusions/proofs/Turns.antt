@@ -6,7 +6,7 @@ use native.Mathlib.Numerals.{add-one}
 use mathlib.Core.Path.{_≡_, refl, sym, ap, ap₂, _∙_}
 use mathlib.Core.Bool.{Bool, true, false}
 use mathlib.Core.List.{List, [], _∷_, _++_, map, append-nil, append-assoc}
-use lib.ListN.{length, getD, set, replicate, List·getD-map}
+use lib.ListN.{length, getD, set, replicate}
 use lib.Seq.{getD-set-same, set-set}
 use lib.Bits.{bitOr}
 use lib.Dec.{eqb}
@@ -14,6 +14,7 @@ use borrow.Author.Tests.{eqb-true, eqb-false}
 use Rattle.wcsp.specs.Sign.{full, complement}
 use Rattle.wcsp.specs.Clause.{ValidClause, nil, cons, kept}
 use Rattle.wcsp.specs.Rule.{joined, excluding}
+use Rattle.wcsp.proofs.Signs.{full-at}
 use Rattle.wcsp.proofs.Lists.{along-length}
 use Rattle.wcsp.proofs.Adding.{kept-append}
 use Rattle.clause.specs.declared.Clause.{Clause}
@@ -32,10 +33,6 @@ Filled B₀ k x y f v B n b r =
 -- twelve sizes, since there are twelve signs
 sizes : {ds : List ℕ} (x : Clause) → ValidClause ds (signsOf x) → length ds ≡ 12
 sizes x p = along-length p ∙ signsOf-length x
-
-pub full-at : (ds : List ℕ) (i : ℕ) → getD (map full ds) i 0 ≡ full (getD ds i 0)
-unfolding full
-full-at ds i = List·getD-map full ds i 0
 
 module _ (B₀ : List ℕ) (k : ℕ) (x y f : Clause) (v : ℕ) where
   pub filled-start : Filled B₀ k x y f v B₀ k 0 x

@@ -6,21 +6,23 @@ use mathlib.Core.Bool.{Bool, true, false}
 use mathlib.Core.List.{List, [], map}
 use lib.ListN.{length, set, take}
 use lib.Dec.{eqb, leb}
-use borrow.Author.Tests.{eq-eqb, eqb-true, lt-ltb, le-ltb, leb-true, leb-false}
+use borrow.Author.Tests.{eq-eqb, lt-ltb, le-ltb, leb-true, leb-false}
 use Rattle.wcsp.specs.Sign.{full}
 use Rattle.words.specs.Layout.{countWord}
 use Rattle.clause.specs.declared.Clause.{Clause}
 use Rattle.clause.specs.Packed.{signsOf, Holds}
+use Rattle.fields.specs.declared.Answer.{Answer}
+use Rattle.fields.specs.Padding.{padded}
+use Rattle.fields.specs.Answers.{refused, good}
+use Rattle.fields.specs.Entries.{EachSize}
+use Rattle.fields.proofs.Padding.{padded-length, padded-front, sizes-padded}
 use Rattle.input.specs.declared.Validated.{Validated}
-use Rattle.input.specs.declared.Answer.{Answer}
-use Rattle.input.specs.Instance.{instanceFault, sizesOf, padded}
-use Rattle.input.specs.Calls.{validateCall, refused, good}
-use Rattle.input.proofs.Validating.{padded-length, padded-front}
-use Rattle.rows.specs.Raw.{Left}
+use Rattle.input.specs.Instance.{instanceFault, sizesOf}
+use Rattle.input.specs.Calls.{validateCall}
+use Rattle.input.proofs.Validating.{GoodValidated, good-validated, bad-validated}
+use Rattle.rows.specs.Raw.{rowWidth, Left}
 use Rattle.table.specs.Layout.{capacity, tableWords}
-use Rattle.table.specs.Check.{Sizes}
 use Rattle.table.specs.Raws.{rawOf}
-use Rattle.table.proofs.Twelve.{sizes-padded}
 use Rattle.table.proofs.Canonical.{room-rows, length-words}
 use Rattle.table.proofs.Finishing.{laid-words, finished}
 use Rattle.encoding.specs.Calls.{encodedRows, encodeCall}
@@ -35,37 +37,26 @@ module _ (ws t : List ℕ) (read : Validated) (r : read ≡ validateCall ws) whe
   -- ---- 1 to 5
 
   pub encode-refused : (read .number ≡ 0 → ⊥) → Answered ws t (refused (read .number)) t
-  unfolding validateCall encodeCall
-  encode-refused b = go (eqb (instanceFault ws) 0) refl
-    where
-      go : (x : Bool) → eqb (instanceFault ws) 0 ≡ x → Answered ws t (refused (read .number)) t
-      go true e = absurd (b (ap (λ (v : Validated). v .number) r ∙ rw e))
-      go false e = let k : read .number ≡ instanceFault ws = ap (λ (v : Validated). v .number) r ∙ rw e in rw (e, k) (refl, refl)
+  unfolding encodeCall
+  encode-refused n = let (b, k) = bad-validated ws read r n in rw (b, k) (refl, refl)
 
   module _ (z : read .number ≡ 0) where
+    found : GoodValidated ws read
+    found = good-validated ws read r z
+
     taken : eqb (instanceFault ws) 0 ≡ true
-    unfolding validateCall
-    taken = go (eqb (instanceFault ws) 0) refl
-      where
-        go : (x : Bool) → eqb (instanceFault ws) 0 ≡ x → x ≡ true
-        go true e = refl
-        go false e =
-            let k : read .number ≡ instanceFault ws = ap (λ (v : Validated). v .number) r ∙ rw e in
-            let f : instanceFault ws ≡ 0 = omega arith in
-            sym e ∙ eq-eqb (instanceFault ws) 0 f
+    taken = eq-eqb (instanceFault ws) 0 (found .fine)
 
     variables-are : length (sizesOf ws) ≡ read .variables
-    unfolding validateCall
-    variables-are = sym (ap (λ (v : Validated). v .variables) r ∙ rw taken)
+    variables-are = sym (found .variables)
 
     sizes-are : read .sizes ≡ padded (sizesOf ws)
-    unfolding validateCall
-    sizes-are = ap (λ (v : Validated). v .sizes) r ∙ rw taken
+    sizes-are = found .sizes
 
     pub instance-known : Known ws (read .variables)
-    instance-known = rw variables-are at (known ws (eqb-true (instanceFault ws) 0 taken))
+    instance-known = rw variables-are at (known ws (found .fine))
 
-    pub sizes-good : (length (read .sizes) ≡ 12) × Sizes (read .sizes)
+    pub sizes-good : (length (read .sizes) ≡ 12) × EachSize (read .sizes)
     sizes-good =
         let k = instance-known in
         rw sizes-are (padded-length (sizesOf ws) (omega (arith, k .variables, k .few)), sizes-padded (k .sizes))
@@ -109,7 +100,7 @@ module _ (ws t : List ℕ) (read : Validated) (r : read ≡ validateCall ws) whe
           fits : length (encodedRows ws) ≤ room
           fits = leb-true (length (encodedRows ws)) room (fits-as ∙ ok)
 
-          rows-fit : read .variables + 2 + 5 * length (encodedRows ws) ≤ length t
+          rows-fit : read .variables + 2 + rowWidth * length (encodedRows ws) ≤ length t
           rows-fit = room-rows (length t) (read .variables) (length (encodedRows ws)) long (omega (arith, fits))
 
           words-are : t₁ ≡ tableWords (length t) (sizesOf ws) []

@@ -3,18 +3,18 @@ use Prim.Native.Nat.{ℕ, suc, _+_, _-_, _*_, _<_, _≤_}
 use native.Mathlib.Omega.{arith}
 use native.Mathlib.Numerals.{add-one}
 use mathlib.Core.Path.{_≡_, refl, sym, ap, ap₂, _∙_}
-use mathlib.Core.Logic.{_≢_}
-use mathlib.Core.List.{List, [], _∷_, _++_, map, map-append, append-assoc, append-nil}
-use lib.ListN.{length, getD, set, take, drop, replicate, length-set, length-take, length-drop, length-append, length-replicate, length-map, replicate-append-replicate}
-use lib.Seq.{take-suc, take-suc-set, take-all, length-take-le, drop-set-add, drop-set-lt, take-set-le, getD-set-same, getD-set-other, drop-drop, drop-at, set-at}
+use mathlib.Core.List.{List, [], _∷_, _++_, map, append-assoc, append-nil}
+use lib.ListN.{length, getD, set, take, drop, replicate, length-set, length-take, length-append, length-replicate, length-map, replicate-append-replicate}
+use lib.Seq.{sets, sets-eq, length-sets, take-suc, take-suc-set, take-all, length-take-le, drop-at, set-at}
 use Rattle.wcsp.specs.Sign.{full}
-use Rattle.words.specs.Layout.{headWord, sizeWord, countWord}
+use Rattle.words.specs.Layout.{sizeWord, countWord}
+use Rattle.fields.specs.Front.{frontWords}
 use Rattle.clause.specs.declared.Clause.{Clause}
 use Rattle.clause.specs.Packed.{signsOf, Packed, Holds}
-use Rattle.rows.specs.Raw.{flat}
-use Rattle.table.specs.Layout.{tableWords}
-use Rattle.table.proofs.Canonical.{put-together}
-use Rattle.encoding.proofs.Entries.{full-at}
+use Rattle.rows.specs.Form.{flatIn}
+use Rattle.rows.specs.Raw.{rowWidth}
+use Rattle.table.specs.Layout.{rowsAt, tableWordsIn, tableWords}
+use Rattle.wcsp.proofs.Signs.{full-at}
 
 -- ---- zeros
 
@@ -54,89 +54,44 @@ module _ (t₀ : List ℕ) (at : ℕ) where
         let e : i ≡ length t₀ = omega arith in
         sym (take-all i t h) ∙ z .is ∙ ap (λ m. take at t₀ ++ replicate (m - at) 0) e
 
--- ---- sizes
-
--- t₀ with the words of the first i sizes behind its head
-pub record SizesWritten (t₀ : List ℕ) (n : ℕ) (sizes : List ℕ) (t : List ℕ) (i : ℕ) : Type 0 where
-  pub long : length t ≡ length t₀
-  pub upto : i ≤ n
-  pub is : take i (drop 1 t) ≡ map sizeWord (take i sizes)
-  pub behind : drop (n + 1) t ≡ drop (n + 1) t₀
-
-module _ (t₀ : List ℕ) (n : ℕ) (sizes : List ℕ) where
-  pub sizes-start : SizesWritten t₀ n sizes t₀ 0
-  sizes-start = record { long = refl; upto = omega arith; is = refl; behind = refl }
-
-  module _ (t : List ℕ) (i : ℕ) (s : SizesWritten t₀ n sizes t i) where
-    pub sizes-next : (v : ℕ) → i < n → n ≤ length sizes → n + 1 ≤ length t₀ → v ≡ sizeWord (getD sizes i 0)
-        → SizesWritten t₀ n sizes (set t (i + 1) v) (i + 1)
-    sizes-next v h l m e =
-        let long = s .long in
-        let o : i + 1 ≡ 1 + i = omega arith in
-        let k : i < length (drop 1 t) = simp length-drop (omega arith) in
-        record {
-          long = length-set t (i + 1) v ∙ long;
-          upto = omega arith;
-          is =
-              ap (λ j. take (i + 1) (drop 1 (set t j v))) o ∙ ap (λ u. take (i + 1) u) (drop-set-add 1 t i v)
-              ∙ ap (λ j. take j (set (drop 1 t) i v)) (add-one i) ∙ take-suc-set (drop 1 t) i v k
-              ∙ ap₂ (λ u x. u ++ (x ∷ [])) (s .is) e ∙ sym (map-append sizeWord (take i sizes) (getD sizes i 0 ∷ []))
-              ∙ ap (map sizeWord) (sym (take-suc sizes i 0 (omega arith)) ∙ ap (λ j. take j sizes) (sym (add-one i)));
-          behind = drop-set-lt (n + 1) t (i + 1) v (omega arith) ∙ s .behind;
-        }
-
-    pub sizes-end : n ≤ i → (take n (drop 1 t) ≡ map sizeWord (take n sizes)) × (drop (n + 1) t ≡ drop (n + 1) t₀) × (length t ≡ length t₀)
-    sizes-end h = let upto = s .upto in let e : i ≡ n = omega arith in (rw e at (s .is), s .behind, s .long)
-
 -- ---- the table of no rows
 
-module _ (t₀ t₁ t₂ : List ℕ) (n : ℕ) (ds : List ℕ) (few : length ds ≡ n) (room : n + 2 ≤ length t₀)
-    (zeros : t₁ ≡ take (n + 2) t₀ ++ replicate (length t₀ - (n + 2)) 0)
-    (front : (take n (drop 1 t₂) ≡ map sizeWord ds) × (drop (n + 1) t₂ ≡ drop (n + 1) t₁) × (length t₂ ≡ length t₁)) where
+zeroed-long : (t₀ t₁ : List ℕ) (n : ℕ) → n + 2 ≤ length t₀ → t₁ ≡ take (n + 1) t₀ ++ replicate (length t₀ - (n + 1)) 0 → length t₁ ≡ length t₀
+zeroed-long t₀ t₁ n room zeros = ap length zeros ∙ simp (length-append, length-take, length-replicate) (omega arith)
+
+pub zeroed-asks : (t₀ t₁ : List ℕ) (n : ℕ) {long : ℕ} → n + 2 ≤ length t₀ → t₁ ≡ take (n + 1) t₀ ++ replicate (length t₀ - (n + 1)) 0 → n ≤ 12
+    → long ≡ 12 → (n ≤ 12) × (long ≡ 12) × (n + 1 ≤ length t₁)
+zeroed-asks t₀ t₁ n room zeros few long = (few, long, omega (arith, zeroed-long t₀ t₁ n room zeros))
+
+module _ (t₀ t₁ t₂ ds : List ℕ) (n : ℕ) (few : length ds ≡ n) (room : n + 2 ≤ length t₀)
+    (zeros : t₁ ≡ take (n + 1) t₀ ++ replicate (length t₀ - (n + 1)) 0) (front : t₂ ≡ sets t₁ 0 (frontWords ds)) where
   zeros-long : length t₁ ≡ length t₀
-  zeros-long = ap length zeros ∙ simp (length-append, length-take, length-replicate) (omega arith)
+  zeros-long = zeroed-long t₀ t₁ n room zeros
 
-  empty-behind : drop (n + 2) t₂ ≡ replicate (length t₀ - (n + 2)) 0
-  empty-behind =
-      let o : n + 1 + 1 ≡ n + 2 = omega arith in
-      let back : (t : List ℕ) → drop (n + 2) t ≡ drop 1 (drop (n + 1) t) = λ t. sym (drop-drop 1 (n + 1) t ∙ ap (λ m. drop m t) o) in
-      back t₂ ∙ ap (λ l. drop 1 l) (front .1) ∙ sym (back t₁) ∙ ap (λ l. drop (n + 2) l) zeros
-      ∙ drop-at (take (n + 2) t₀) (replicate (length t₀ - (n + 2)) 0) (n + 2) (length-take-le (n + 2) t₀ room)
+  front-long : length (frontWords ds) ≡ n + 1
+  front-long = let m = length-map ds sizeWord in omega arith
 
-  front-cleared : set (set t₂ 0 (headWord n)) (n + 1) (countWord 0) ≡ tableWords (length t₀) ds []
-  unfolding flat
-  front-cleared =
-      let h = headWord n in
-      let c = countWord 0 in
-      let m = front .2 in
-      let long = zeros-long in
-      let s = length-set t₂ 0 h in
-      let other : 0 ≢ n + 1 = λ (e : 0 ≡ n + 1). omega arith in
-      let o : n + 1 ≡ 1 + n = omega arith in
-      let z : length t₀ - (n + 2 + 5 * 0) ≡ length t₀ - (n + 2) = omega arith in
-      put-together (set (set t₂ 0 h) (n + 1) c) (length t₀) ds []
-      (record {
-        room = rw (few, length-set (set t₂ 0 h) (n + 1) c, s, m, long) room;
-        head = rw few (getD-set-other (set t₂ 0 h) (n + 1) 0 c 0 other ∙ getD-set-same t₂ 0 h 0 (omega arith));
-        sizes =
-            rw few
-            (ap (λ i. take n (drop 1 (set (set t₂ 0 h) i c))) o ∙ ap (λ u. take n u) (drop-set-add 1 (set t₂ 0 h) n c)
-            ∙ take-set-le n (drop 1 (set t₂ 0 h)) n c (omega arith) ∙ ap (λ u. take n u) (drop-set-lt 1 t₂ 0 h (omega arith)) ∙ front .0);
-        count = rw few (getD-set-same (set t₂ 0 h) (n + 1) c 0 (omega arith));
-        behind =
-            rw few
-            (drop-set-lt (n + 2) (set t₂ 0 h) (n + 1) c (omega arith) ∙ drop-set-lt (n + 2) t₂ 0 h (omega arith) ∙ empty-behind
-            ∙ ap (λ k. replicate k 0) (sym z));
-      })
+  front-first : t₂ ≡ frontWords ds ++ replicate (length t₀ - (n + 1)) 0
+  front-first =
+      let fits : 0 + length (frontWords ds) ≤ length t₁ = omega (arith, zeros-long, front-long) in
+      let behind : drop (n + 1) t₁ ≡ replicate (length t₀ - (n + 1)) 0
+      = ap (drop (n + 1)) zeros ∙ drop-at (take (n + 1) t₀) (replicate (length t₀ - (n + 1)) 0) (n + 1) (length-take-le (n + 1) t₀ (omega arith)) in
+      front ∙ sets-eq (frontWords ds) t₁ 0 fits ∙ ap (λ k. frontWords ds ++ drop k t₁) (let z : 0 + length (frontWords ds) ≡ n + 1 = omega (arith, front-long) in z) ∙ ap (λ l. frontWords ds ++ l) behind
 
-  pub cleared : (h c : ℕ) → h ≡ headWord n → c ≡ countWord 0 → set (set t₂ 0 h) (n + 1) c ≡ tableWords (length t₀) ds []
-  cleared h c p q = ap₂ (λ u v. set (set t₂ 0 u) (n + 1) v) p q ∙ front-cleared
+  pub cleared-long : (c : ℕ) → length (set t₂ (n + 1) c) ≡ length t₀
+  cleared-long c = length-set t₂ (n + 1) c ∙ ap length front ∙ length-sets t₁ 0 (frontWords ds) ∙ zeros-long
 
-  pub cleared-long : (h c : ℕ) → length (set (set t₂ 0 h) (n + 1) c) ≡ length t₀
-  cleared-long h c = length-set (set t₂ 0 h) (n + 1) c ∙ length-set t₂ 0 h ∙ front .2 ∙ zeros-long
+  pub cleared-room : n + 1 < length t₂
+  cleared-room = omega (arith, ap length front ∙ length-sets t₁ 0 (frontWords ds), zeros-long)
 
-  pub cleared-room : (h : ℕ) → n + 1 < length (set t₂ 0 h)
-  cleared-room h = omega (arith, length-set t₂ 0 h, front .2, zeros-long)
+  pub cleared : (c : ℕ) → c ≡ countWord 0 → set t₂ (n + 1) c ≡ tableWords (length t₀) ds []
+  unfolding tableWordsIn flatIn
+  cleared c e =
+      let m : length t₀ - (n + 1) ≡ suc (length t₀ - (n + 2)) = omega arith in
+      let z : length t₀ - (n + 2) ≡ length t₀ - (rowsAt (length ds) + rowWidth * 0) = omega arith in
+      ap (λ l. set l (n + 1) c) (front-first ∙ ap (λ k. frontWords ds ++ replicate k 0) m)
+      ∙ set-at (frontWords ds) 0 (replicate (length t₀ - (n + 2)) 0) c (n + 1) front-long
+      ∙ ap₂ (λ x k. frontWords ds ++ (x ∷ replicate k 0)) e z
 
 -- ---- full signs
 

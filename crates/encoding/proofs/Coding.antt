@@ -10,12 +10,11 @@ use lib.Dec.{eqb}
 use borrow.Author.Tests.{eqb-true}
 use Rattle.wcsp.specs.Clause.{same}
 use Rattle.wcsp.specs.Row.{Row, merge}
-use Rattle.words.specs.declared.Word.{Word}
-use Rattle.words.specs.declared.Word.the-variants.{Head, Size, Binding, Cost, Signs, Weight, Step, Easting, Northing, Count, Unknown}
-use Rattle.words.specs.Meaning.{wordOf}
+use Rattle.words.specs.Layout.{kindOf, variableIn, valueIn}
+use Rattle.fields.specs.Entries.{costOf}
 use Rattle.table.specs.Valid.{hasSigns}
 use Rattle.table.proofs.Twelve.{Twelve}
-use Rattle.encoding.specs.Coding.{costOf, positives, costsIn, signsAfter, grown, Coded, nothingCoded, codedAfter, codedBy, codedTo, rowsTo}
+use Rattle.encoding.specs.Coding.{positives, costsIn, signsAfter, grown, Coded, nothingCoded, codedAfter, codedBy, codedTo, rowsTo}
 use Rattle.encoding.proofs.Merging.{has-merge, length-merge, heft, heft-merge, AllTwelve, nilTwelve, twelve-merge}
 
 -- ---- one more word
@@ -24,9 +23,9 @@ module _ (fs : List ℕ) where
   coded-append : (st : Coded) (us vs : List ℕ) → codedBy fs st (us ++ vs) ≡ codedBy fs (codedBy fs st us) vs
   unfolding codedBy
   coded-append st [] vs = refl
-  coded-append st (u ∷ us) vs = coded-append (codedAfter fs st (wordOf u)) us vs
+  coded-append st (u ∷ us) vs = coded-append (codedAfter fs st u) us vs
 
-  coded-one : (st : Coded) (us : List ℕ) (w : ℕ) → codedBy fs st (us ++ (w ∷ [])) ≡ codedAfter fs (codedBy fs st us) (wordOf w)
+  coded-one : (st : Coded) (us : List ℕ) (w : ℕ) → codedBy fs st (us ++ (w ∷ [])) ≡ codedAfter fs (codedBy fs st us) w
   unfolding codedBy
   coded-one st us w = coded-append st us (w ∷ [])
 
@@ -35,7 +34,7 @@ module _ (fs : List ℕ) where
     unfolding codedTo codedBy
     coded-start = let z : at - at ≡ 0 = omega arith in rw z
 
-    pub coded-next : (i : ℕ) → at ≤ i → i < length ws → codedTo fs at (i + 1) ws ≡ codedAfter fs (codedTo fs at i ws) (wordOf (getD ws i 0))
+    pub coded-next : (i : ℕ) → at ≤ i → i < length ws → codedTo fs at (i + 1) ws ≡ codedAfter fs (codedTo fs at i ws) (getD ws i 0)
     unfolding codedTo
     coded-next i h l =
         let n : i + 1 - at ≡ suc (i - at) = omega arith in
@@ -104,14 +103,14 @@ module _ (fs : List ℕ) where
   unfolding codedBy codedAfter
   rows-grow st [] = omega arith
   rows-grow st (u ∷ us) =
-      omega (arith, length-grown (costOf (wordOf u)) (st .signs) (st .rows), rows-grow (codedAfter fs st (wordOf u)) us)
+      omega (arith, length-grown (costOf u) (st .signs) (st .rows), rows-grow (codedAfter fs st u) us)
 
   -- each positive word adds at most one
   pub rows-few : (st : Coded) (us : List ℕ) → length (codedBy fs st us .rows) ≤ length (st .rows) + positives us
   unfolding codedBy codedAfter positives
   rows-few st [] = omega arith
   rows-few st (u ∷ us) =
-      omega (arith, length-grown (costOf (wordOf u)) (st .signs) (st .rows), rows-few (codedAfter fs st (wordOf u)) us, one (eqb (costOf (wordOf u)) 0) (hasSigns (st .signs) (st .rows)))
+      omega (arith, length-grown (costOf u) (st .signs) (st .rows), rows-few (codedAfter fs st u) us, one (eqb (costOf u) 0) (hasSigns (st .signs) (st .rows)))
     where
       one : (a b : Bool) → cond a 0 (cond b 0 1) ≤ cond a 0 1
       one true b = omega arith
@@ -122,14 +121,14 @@ module _ (fs : List ℕ) where
   unfolding codedBy codedAfter costsIn
   heft-coded st [] = omega arith
   heft-coded st (u ∷ us) =
-      omega (arith, heft-grown (costOf (wordOf u)) (st .signs) (st .rows), heft-coded (codedAfter fs st (wordOf u)) us)
+      omega (arith, heft-grown (costOf u) (st .signs) (st .rows), heft-coded (codedAfter fs st u) us)
 
   pub has-stays : (c : List ℕ) (st : Coded) (us : List ℕ) → hasSigns c (st .rows) ≡ true → hasSigns c (codedBy fs st us .rows) ≡ true
   unfolding codedBy codedAfter
   has-stays c st [] e = e
   has-stays c st (u ∷ us) e =
-      has-stays c (codedAfter fs st (wordOf u)) us
-      (has-grown (costOf (wordOf u)) (st .signs) (st .rows) c ∙ ap (λ b. b || (not (eqb (costOf (wordOf u)) 0) && same (st .signs) c)) e)
+      has-stays c (codedAfter fs st u) us
+      (has-grown (costOf u) (st .signs) (st .rows) c ∙ ap (λ b. b || (not (eqb (costOf u) 0) && same (st .signs) c)) e)
 
 -- ---- twelve signs
 
@@ -148,27 +147,25 @@ twelve-zeros = record { long = refl; small = λ v. small-zeros 12 v }
     small-zeros (suc n) zero = omega arith
     small-zeros (suc n) (suc v) = small-zeros n v
 
-twelve-after : (fs s : List ℕ) (w : Word) → Twelve fs → Twelve s → Twelve (signsAfter fs s w)
+twelve-after : (fs s : List ℕ) (w : ℕ) → Twelve fs → Twelve s → Twelve (signsAfter fs s w)
 unfolding signsAfter
-twelve-after fs s (Head n) f t = t
-twelve-after fs s (Size d) f t = t
-twelve-after fs s (Binding v a) f t =
-    let h : getD fs v 0 - 2 ^ a < 256 = omega (arith, f .small v) in
-    record { long = length-set s v (getD fs v 0 - 2 ^ a) ∙ t .long; small = small-set s v (getD fs v 0 - 2 ^ a) (t .small) h }
-twelve-after fs s (Cost c) f t = twelve-zeros
-twelve-after fs s (Signs k x) f t = t
-twelve-after fs s (Weight w) f t = t
-twelve-after fs s (Step v i j) f t = t
-twelve-after fs s (Easting p) f t = t
-twelve-after fs s (Northing p) f t = t
-twelve-after fs s (Count k) f t = t
-twelve-after fs s Unknown f t = t
+twelve-after fs s w f t = go (eqb (kindOf w) 3) (eqb (kindOf w) 4)
+  where
+    sign : ℕ
+    sign = getD fs (variableIn w) 0 - 2 ^ valueIn w
+
+    go : (b c : Bool) → Twelve (cond b (set s (variableIn w) sign) (cond c (replicate 12 0) s))
+    go true c =
+        let h : sign < 256 = omega (arith, f .small (variableIn w)) in
+        record { long = length-set s (variableIn w) sign ∙ t .long; small = small-set s (variableIn w) sign (t .small) h }
+    go false true = twelve-zeros
+    go false false = t
 
 pub twelve-coded : (fs : List ℕ) (st : Coded) (us : List ℕ) → Twelve fs → Twelve (st .signs) → AllTwelve (st .rows) → AllTwelve (codedBy fs st us .rows)
 unfolding codedBy codedAfter
 twelve-coded fs st [] f t h = h
 twelve-coded fs st (u ∷ us) f t h =
-    twelve-coded fs (codedAfter fs st (wordOf u)) us f (twelve-after fs (st .signs) (wordOf u) f t) (twelve-grown (costOf (wordOf u)) t h)
+    twelve-coded fs (codedAfter fs st u) us f (twelve-after fs (st .signs) u f t) (twelve-grown (costOf u) t h)
 
 pub twelve-to : (fs : List ℕ) (at i : ℕ) (ws : List ℕ) → Twelve fs → AllTwelve (rowsTo fs at i ws)
 unfolding codedTo

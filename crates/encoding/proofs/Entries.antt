@@ -3,26 +3,24 @@
 use Prim.Native.Nat.{ℕ, _+_, _-_, _^_, _<_}
 use native.Mathlib.Omega.{arith}
 use mathlib.Core.Path.{_≡_, refl, sym, ap, ap₂, _∙_}
-use mathlib.Core.Bool.{false, cond}
+use mathlib.Core.Bool.{Bool, true, false, cond}
 use mathlib.Core.Logic.{_≢_}
 use mathlib.Core.List.{List, [], _∷_, _++_, map}
-use lib.ListN.{length, getD, set, replicate, List·getD-map}
+use lib.ListN.{length, getD, set, replicate}
 use lib.Seq.{set-comm}
-use lib.Pow.{pow-pos, pow-mono}
+use lib.Pow.{pow-pos}
 use lib.Dec.{eqb}
-use borrow.Author.Tests.{ne-eqb}
+use borrow.Author.Tests.{eqb-true, ne-eqb}
 use Rattle.wcsp.specs.Sign.{full}
 use Rattle.wcsp.specs.Clause.{nil, cons, ValidClause, AllPositive, nilPositive, consPositive, tautology}
 use Rattle.wcsp.specs.Row.{Row, add}
 use Rattle.wcsp.specs.Entry.{Binding, Entry, Rising, nilRising, consRising, WellFormed, consEntries, clauseOf, encodeOnto}
+use Rattle.wcsp.proofs.Signs.{full-at}
 use Rattle.wcsp.proofs.Encoding.{along-set}
-use Rattle.words.specs.declared.Word.{Word}
-use Rattle.words.specs.declared.Word.the-variants.{Head, Size, Cost, Signs, Weight, Step, Easting, Northing, Count, Unknown}
-use Rattle.words.specs.declared.Word.the-variants.{Binding as BindingOf}
-use Rattle.words.specs.Meaning.{wordOf}
-use Rattle.input.specs.Instance.{entriesAfter, entriesFrom}
-use Rattle.input.specs.Scan.{costIn}
-use Rattle.encoding.specs.Coding.{costOf, costsIn, signsAfter, grown, codedAfter, codedBy}
+use Rattle.wcsp.proofs.Rebuilding.{full-positive}
+use Rattle.words.specs.Layout.{kindOf, payloadOf, variableIn, valueIn}
+use Rattle.fields.specs.Entries.{costOf, entriesFrom}
+use Rattle.encoding.specs.Coding.{costsIn, signsAfter, grown, codedAfter, codedBy}
 
 -- ---- the signs of an open entry
 
@@ -48,10 +46,6 @@ module _ (fs : List ℕ) where
       let d : v ≢ b .variable = λ (e : v ≡ b .variable). omega arith in
       ap (λ z. setsFrom fs z bs) (set-comm s v (b .variable) x y d) ∙ sets-set r (set s (b .variable) y) v x (omega arith)
 
-pub full-at : (es : List ℕ) (v : ℕ) → getD (map full es) v 0 ≡ full (getD es v 0)
-unfolding full
-full-at es v = List·getD-map full es v 0
-
 sets-clause : {ds : List ℕ} {k : ℕ} {bs : List Binding} (es : List ℕ) → Rising ds k bs
     → setsFrom (map full es) (replicate (length es) 0) bs ≡ clauseOf es bs
 unfolding clauseOf setsFrom
@@ -61,10 +55,6 @@ sets-clause es (consRising {b = b} {bs = bs} l m n r) =
     ∙ ap₂ (λ c S. set c (b .variable) (S - 2 ^ b .value)) (sets-clause es r) (full-at es (b .variable))
 
 -- ---- no tautology
-
-pub full-positive : (d : ℕ) → 0 < d → 0 < full d
-unfolding full
-full-positive d h = omega (arith, pow-mono {i = 1} {j = d} h)
 
 zeros-valid : {es : List ℕ} → AllPositive es → ValidClause es (replicate (length es) 0)
 zeros-valid nilPositive = nil
@@ -87,6 +77,9 @@ valid-plain (cons {a = d} {b = S} h t) = rw (ne-eqb S (full d) (λ (e : S ≡ fu
 
 -- ---- words and entries
 
+both-kinds : (w : ℕ) → eqb (kindOf w) 3 ≡ true → eqb (kindOf w) 4 ≡ true → ⊥
+both-kinds w e f = omega (arith, eqb-true (kindOf w) 3 e, eqb-true (kindOf w) 4 f)
+
 module _ (ds es : List ℕ) (long : length es ≡ 12) (a : AllPositive es) (f : (v : ℕ) → v < length ds → getD es v 0 ≡ getD ds v 0) where
   signs-clause : {k : ℕ} {bs : List Binding} → Rising ds k bs → setsFrom (map full es) (replicate 12 0) bs ≡ clauseOf es bs
   signs-clause r = rw long at (sets-clause es r)
@@ -98,34 +91,38 @@ module _ (ds es : List ℕ) (long : length es ≡ 12) (a : AllPositive es) (f : 
 
   coded-entries : (bs : List Binding) (rs : List Row) (ws : List ℕ) → WellFormed ds (entriesFrom bs ws)
       → codedBy (map full es) (record { signs = setsFrom (map full es) (replicate 12 0) bs; rows = rs }) ws .rows ≡ encodeOnto es rs (entriesFrom bs ws)
-  unfolding codedBy codedAfter signsAfter grown costIn entriesFrom encodeOnto setsFrom
+  unfolding codedBy codedAfter signsAfter grown costOf entriesFrom encodeOnto setsFrom
   coded-entries bs rs [] g = refl
-  coded-entries bs rs (w ∷ ws) g = go (wordOf w) (λ bs rs. coded-entries bs rs ws) g
+  coded-entries bs rs (w ∷ ws) g = go (eqb (kindOf w) 3) (eqb (kindOf w) 4) refl refl (λ bs rs. coded-entries bs rs ws) g
     where
       fs : List ℕ
       fs = map full es
 
-      go : (W : Word)
+      s : List ℕ
+      s = setsFrom fs (replicate 12 0) bs
+
+      b : Binding
+      b = record { variable = variableIn w; value = valueIn w }
+
+      go : (x y : Bool) → eqb (kindOf w) 3 ≡ x → eqb (kindOf w) 4 ≡ y
           → ((bs : List Binding) (rs : List Row) → WellFormed ds (entriesFrom bs ws)
           → codedBy fs (record { signs = setsFrom fs (replicate 12 0) bs; rows = rs }) ws .rows ≡ encodeOnto es rs (entriesFrom bs ws))
-          → WellFormed ds (entriesAfter bs (λ b. entriesFrom b ws) W)
-          → codedBy fs (codedAfter fs (record { signs = setsFrom fs (replicate 12 0) bs; rows = rs }) W) ws .rows
-          ≡ encodeOnto es rs (entriesAfter bs (λ b. entriesFrom b ws) W)
-      go (Head n) ih g = ih bs rs g
-      go (Size d) ih g = ih bs rs g
-      go (BindingOf v a) ih g =
-          ap (λ s. codedBy fs (record { signs = s; rows = rs }) ws .rows) (sym (sets-more fs (replicate 12 0) bs (record { variable = v; value = a })))
-          ∙ ih (bs ++ (record { variable = v; value = a } ∷ [])) rs g
-      go (Cost c) ih (consEntries r g) =
-          ih [] (grown c (setsFrom fs (replicate 12 0) bs) rs) g
-          ∙ ap (λ q. encodeOnto es q (entriesFrom [] ws)) (grown-add c rs r)
-      go (Signs k x) ih g = ih bs rs g
-      go (Weight w) ih g = ih bs rs g
-      go (Step s i j) ih g = ih bs rs g
-      go (Easting o) ih g = ih bs rs g
-      go (Northing o) ih g = ih bs rs g
-      go (Count k) ih g = ih bs rs g
-      go Unknown ih g = ih bs rs g
+          → WellFormed ds
+          (cond x (entriesFrom (bs ++ (b ∷ [])) ws) (cond y (record { bindings = bs; cost = payloadOf w } ∷ entriesFrom [] ws) (entriesFrom bs ws)))
+          → codedBy fs
+          (record {
+            signs = cond x (set s (variableIn w) (getD fs (variableIn w) 0 - 2 ^ valueIn w)) (cond y (replicate 12 0) s);
+            rows = grown (cond y (payloadOf w) 0) s rs;
+          })
+          ws .rows
+          ≡ encodeOnto es rs
+          (cond x (entriesFrom (bs ++ (b ∷ [])) ws) (cond y (record { bindings = bs; cost = payloadOf w } ∷ entriesFrom [] ws) (entriesFrom bs ws)))
+      go true true e f ih g = absurd (both-kinds w e f)
+      go true false e f ih g =
+          ap (λ s. codedBy fs (record { signs = s; rows = rs }) ws .rows) (sym (sets-more fs (replicate 12 0) bs b)) ∙ ih (bs ++ (b ∷ [])) rs g
+      go false true e f ih (consEntries r g) =
+          ih [] (grown (payloadOf w) s rs) g ∙ ap (λ q. encodeOnto es q (entriesFrom [] ws)) (grown-add (payloadOf w) rs r)
+      go false false e f ih g = ih bs rs g
 
   pub coded-encoded : (ws : List ℕ) → WellFormed ds (entriesFrom [] ws)
       → codedBy (map full es) (record { signs = replicate 12 0; rows = [] }) ws .rows ≡ encodeOnto es [] (entriesFrom [] ws)
@@ -140,19 +137,17 @@ total [] = 0
 total (e ∷ es) = e .cost + total es
 
 pub costs-total : (bs : List Binding) (ws : List ℕ) → costsIn ws ≡ total (entriesFrom bs ws)
-unfolding costsIn total entriesFrom costIn
+unfolding costsIn total entriesFrom costOf
 costs-total bs [] = refl
-costs-total bs (w ∷ ws) = go (wordOf w) (λ bs. costs-total bs ws)
+costs-total bs (w ∷ ws) = go (eqb (kindOf w) 3) (eqb (kindOf w) 4) refl refl (λ bs. costs-total bs ws)
   where
-    go : (W : Word) → ((bs : List Binding) → costsIn ws ≡ total (entriesFrom bs ws)) → costOf W + costsIn ws ≡ total (entriesAfter bs (λ b. entriesFrom b ws) W)
-    go (Head n) ih = omega (arith, ih bs)
-    go (Size d) ih = omega (arith, ih bs)
-    go (BindingOf v a) ih = omega (arith, ih (bs ++ (record { variable = v; value = a } ∷ [])))
-    go (Cost c) ih = omega (arith, ih [])
-    go (Signs k x) ih = omega (arith, ih bs)
-    go (Weight w) ih = omega (arith, ih bs)
-    go (Step s i j) ih = omega (arith, ih bs)
-    go (Easting o) ih = omega (arith, ih bs)
-    go (Northing o) ih = omega (arith, ih bs)
-    go (Count k) ih = omega (arith, ih bs)
-    go Unknown ih = omega (arith, ih bs)
+    b : Binding
+    b = record { variable = variableIn w; value = valueIn w }
+
+    go : (x y : Bool) → eqb (kindOf w) 3 ≡ x → eqb (kindOf w) 4 ≡ y → ((bs : List Binding) → costsIn ws ≡ total (entriesFrom bs ws))
+        → cond y (payloadOf w) 0 + costsIn ws
+        ≡ total (cond x (entriesFrom (bs ++ (b ∷ [])) ws) (cond y (record { bindings = bs; cost = payloadOf w } ∷ entriesFrom [] ws) (entriesFrom bs ws)))
+    go true true e f ih = absurd (both-kinds w e f)
+    go true false e f ih = omega (arith, ih (bs ++ (b ∷ [])))
+    go false true e f ih = omega (arith, ih [])
+    go false false e f ih = omega (arith, ih bs)

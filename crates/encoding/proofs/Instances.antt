@@ -7,26 +7,27 @@ use mathlib.Core.Bool.{Bool, true, false, _&&_, cond}
 use mathlib.Core.List.{List, [], _∷_, map}
 use lib.ListN.{length, getD, drop, replicate, length-drop, List·getD-append, List·getD-eq-default}
 use lib.Seq.{getD-drop}
-use lib.Dec.{leb, ltb}
-use borrow.Author.Tests.{leb-true, leb-false, ltb-true}
+use lib.Dec.{eqb, leb, ltb}
+use borrow.Author.Tests.{eq-eqb, leb-true, leb-false, ltb-true}
 use Rattle.wcsp.specs.Sign.{full}
-use Rattle.wcsp.specs.Clause.{AllPositive, nilPositive, consPositive}
 use Rattle.wcsp.specs.Entry.{Entry, encoded}
-use Rattle.wcsp.proofs.Signs.{single-le-full}
-use Rattle.words.specs.declared.Word.{Word}
-use Rattle.words.specs.declared.Word.the-variants.{Head, Size, Binding, Cost, Signs, Weight, Step, Easting, Northing, Count, Unknown}
-use Rattle.words.specs.Meaning.{wordOf}
-use Rattle.input.specs.Instance.{goes, stops, maxCost, maxEntries, scanBinding, scanCost, scanWord, resume, entriesFault, instanceFault, entriesFrom, sizesOf, padded}
-use Rattle.input.specs.Phases.{goodSizes}
-use Rattle.input.specs.Accepted.{Each, nilEach, consEach}
-use Rattle.input.proofs.Validating.{headed-bounds, padded-length, good-long, sizes-number, entries-are, instance-apart}
-use Rattle.input.proofs.Acceptance.{instance-headed, accepted}
-use Rattle.table.specs.Check.{Sizes, nilSizes, consSizes}
-use Rattle.table.proofs.Twelve.{sizes-at, sizes-padded}
+use Rattle.wcsp.proofs.Signs.{full-at, single-le-full}
+use Rattle.words.specs.Layout.{kindOf, payloadOf, variableIn, valueIn}
+use Rattle.fields.specs.Limits.{maxCost, maxEntries}
+use Rattle.fields.specs.Front.{goodSizes}
+use Rattle.fields.specs.Entries.{Each, EachSize, nilEach, consEach, entriesFrom}
+use Rattle.fields.specs.Padding.{padded}
+use Rattle.fields.proofs.Fronts.{good-long}
+use Rattle.fields.proofs.Sizes.{each-positive}
+use Rattle.fields.proofs.Padding.{padded-length, sizes-at, sizes-padded}
+use Rattle.input.specs.Instance.{goes, stops, scanBinding, scanCost, scanWord, resume, entriesFault, instanceFault, sizesOf}
+use Rattle.input.proofs.Validating.{headed-bounds, sizes-number, entries-are, instance-apart}
+use Rattle.input.proofs.Acceptance.{instance-headed, accepted-instance, passed}
+use Rattle.rows.specs.Raw.{maxWeight}
 use Rattle.encoding.specs.Calls.{encodedRows}
 use Rattle.encoding.specs.Coding.{AllProper, costsIn, rowsTo}
 use Rattle.encoding.proofs.Coding.{coded-whole}
-use Rattle.encoding.proofs.Entries.{full-at, coded-encoded, total, costs-total}
+use Rattle.encoding.proofs.Entries.{coded-encoded, total, costs-total}
 
 -- ---- words without a fault
 
@@ -34,28 +35,21 @@ stopped : (k : ℕ) → suc k ≡ 0 → ⊥
 stopped k e = omega arith
 
 -- behind a word without a fault the rest has none
-rest-fault : (ds : List ℕ) (from count : ℕ) (R : ℕ → ℕ → ℕ) (W : Word) → resume R (scanWord ds from count W) ≡ 0 → (f : ℕ) × (c : ℕ) × (R f c ≡ 0)
+rest-fault : (ds : List ℕ) (from count : ℕ) (R : ℕ → ℕ → ℕ) (w : ℕ) → resume R (scanWord ds from count w) ≡ 0 → (f : ℕ) × (c : ℕ) × (R f c ≡ 0)
 unfolding scanWord scanBinding scanCost resume
-rest-fault ds from count R (Head n) e = absurd (stopped 2 e)
-rest-fault ds from count R (Size d) e = absurd (stopped 2 e)
-rest-fault ds from count R (Binding v a) e = go (leb from v && ltb a (getD ds v 0)) e
+rest-fault ds from count R w e =
+    go (eqb (kindOf w) 3) (eqb (kindOf w) 4) (leb from (variableIn w) && ltb (valueIn w) (getD ds (variableIn w) 0)) (ltb maxCost (payloadOf w)) (leb maxEntries count) e
   where
-    go : (b : Bool) → resume R (cond b (goes (suc v) count) (stops 3)) ≡ 0 → (f : ℕ) × (c : ℕ) × (R f c ≡ 0)
-    go true e = (suc v, count, e)
-    go false e = absurd (stopped 2 e)
-rest-fault ds from count R (Cost x) e = go (ltb maxCost x) (leb maxEntries count) e
-  where
-    go : (b d : Bool) → resume R (cond b (stops 4) (cond d (stops 5) (goes 0 (suc count)))) ≡ 0 → (f : ℕ) × (c : ℕ) × (R f c ≡ 0)
-    go true d e = absurd (stopped 3 e)
-    go false true e = absurd (stopped 4 e)
-    go false false e = (0, suc count, e)
-rest-fault ds from count R (Signs k x) e = absurd (stopped 2 e)
-rest-fault ds from count R (Weight w) e = absurd (stopped 2 e)
-rest-fault ds from count R (Step s i j) e = absurd (stopped 2 e)
-rest-fault ds from count R (Easting o) e = absurd (stopped 2 e)
-rest-fault ds from count R (Northing o) e = absurd (stopped 2 e)
-rest-fault ds from count R (Count k) e = absurd (stopped 2 e)
-rest-fault ds from count R Unknown e = absurd (stopped 2 e)
+    go : (x y a b d : Bool)
+        → resume R
+        (cond x (cond a (goes (suc (variableIn w)) count) (stops 3))
+        (cond y (cond b (stops 4) (cond d (stops 5) (goes 0 (suc count)))) (stops 3))) ≡ 0 → (f : ℕ) × (c : ℕ) × (R f c ≡ 0)
+    go true y true b d e = (suc (variableIn w), count, e)
+    go true y false b d e = absurd (stopped 2 e)
+    go false true a true d e = absurd (stopped 3 e)
+    go false true a false true e = absurd (stopped 4 e)
+    go false true a false false e = (0, suc count, e)
+    go false false a b d e = absurd (stopped 2 e)
 
 binding-known : (ds : List ℕ) (from count v a : ℕ) (R : ℕ → ℕ → ℕ) → resume R (scanBinding ds from count v a) ≡ 0 → a < getD ds v 0
 unfolding scanBinding resume
@@ -66,25 +60,17 @@ binding-known ds from count v a R e = go (leb from v) (ltb a (getD ds v 0)) refl
     go true false f e = absurd (stopped 2 e)
     go false false f e = absurd (stopped 2 e)
 
-known-words : (ds : List ℕ) (from count : ℕ) (us : List ℕ) → entriesFault ds from count us ≡ 0 → (k : ℕ) → k < length us → (v a : ℕ)
-    → wordOf (getD us k 0) ≡ Binding v a → a < getD ds v 0
+known-words : (ds : List ℕ) (from count : ℕ) (us : List ℕ) → entriesFault ds from count us ≡ 0 → (k : ℕ) → k < length us
+    → kindOf (getD us k 0) ≡ 3 → valueIn (getD us k 0) < getD ds (variableIn (getD us k 0)) 0
 unfolding entriesFault scanWord
-known-words ds from count [] e k h v a w = absurd (omega arith)
-known-words ds from count (u ∷ us) e zero h v a w =
-    binding-known ds from count v a (λ f c. entriesFault ds f c us) (ap (λ W. resume (λ f c. entriesFault ds f c us) (scanWord ds from count W)) (sym w) ∙ e)
-known-words ds from count (u ∷ us) e (suc k) h v a w =
-    let (f, c, q) = rest-fault ds from count (λ f c. entriesFault ds f c us) (wordOf u) e in
-    known-words ds f c us q k (le-of-suc-le-suc h) v a w
+known-words ds from count [] e k h w = absurd (omega arith)
+known-words ds from count (u ∷ us) e zero h w =
+    binding-known ds from count (variableIn u) (valueIn u) (λ f c. entriesFault ds f c us) (rw (eq-eqb (kindOf u) 3 w) at e)
+known-words ds from count (u ∷ us) e (suc k) h w =
+    let (f, c, q) = rest-fault ds from count (λ f c. entriesFault ds f c us) u e in
+    known-words ds f c us q k (le-of-suc-le-suc h) w
 
 -- ---- sizes
-
-sizes-of : {ds : List ℕ} → Each (λ d. (1 ≤ d) × (d ≤ 8)) ds → Sizes ds
-sizes-of nilEach = nilSizes
-sizes-of (consEach h t) = consSizes (h .0) (h .1) (sizes-of t)
-
-pub positive-of : {ds : List ℕ} → Sizes ds → AllPositive ds
-positive-of nilSizes = nilPositive
-positive-of (consSizes h k s) = consPositive h (positive-of s)
 
 padded-at : (ds : List ℕ) (v : ℕ) → v < length ds → getD (padded ds) v 0 ≡ getD ds v 0
 unfolding padded
@@ -97,7 +83,7 @@ named ds v a h = go (leb (length ds) v) refl
     go true e = let z = List·getD-eq-default ds 0 (leb-true (length ds) v e) in absurd (omega arith)
     go false e = leb-false (length ds) v e
 
-proper-at : (ds : List ℕ) → length ds ≤ 12 → Sizes ds → (v a : ℕ) → a < getD ds v 0
+proper-at : (ds : List ℕ) → length ds ≤ 12 → EachSize ds → (v a : ℕ) → a < getD ds v 0
     → (v < 12) × (a < 8) × (2 ^ a ≤ getD (map full (padded ds)) v 0)
 proper-at ds l s v a h =
     let k = named ds v a h in
@@ -107,26 +93,22 @@ proper-at ds l s v a h =
 
 -- ---- costs
 
-total-bounded : (es : List Entry) → Each (λ e. e .cost ≤ maxCost) es → total es ≤ 65535 * length es
+total-bounded : (es : List Entry) → Each (λ e. e .cost ≤ maxCost) es → total es ≤ maxCost * length es
 unfolding total
 total-bounded [] nilEach = omega arith
 total-bounded (e ∷ es) (consEach h r) = omega (arith, total-bounded es r)
 
 -- ---- the instance
 
-passed : (b : Bool) (x y : ℕ) → x ≡ cond b y 2 → x ≡ 0 → (b ≡ true) × (y ≡ 0)
-passed true x y e z = (refl, sym e ∙ z)
-passed false x y e z = absurd (omega arith)
-
 -- what is known of an accepted instance over n variables
 pub record Known (ws : List ℕ) (n : ℕ) : Type 0 where
   pub variables : length (sizesOf ws) ≡ n
   pub some : 1 ≤ n
   pub few : n ≤ 12
-  pub sizes : Sizes (sizesOf ws)
+  pub sizes : EachSize (sizesOf ws)
   pub within : n + 1 ≤ length ws
   pub proper : AllProper (map full (padded (sizesOf ws))) (n + 1) ws
-  pub costs : costsIn (drop (n + 1) ws) < 268435456
+  pub costs : costsIn (drop (n + 1) ws) ≤ maxWeight
   pub rows : rowsTo (map full (padded (sizesOf ws))) (n + 1) (length ws) ws ≡ encodedRows ws
 
 pub known : (ws : List ℕ) → instanceFault ws ≡ 0 → Known ws (length (sizesOf ws))
@@ -135,9 +117,9 @@ known ws e =
     let (n, h) = instance-headed ws e in
     let b = headed-bounds ws n h in
     let (g, f) = passed (goodSizes n (drop 1 ws)) (instanceFault ws) (entriesFault (sizesOf ws) 0 0 (drop (n + 1) ws)) (instance-apart ws n h) e in
-    let acc = accepted ws e in
+    let acc = accepted-instance ws e in
     let v : length (sizesOf ws) ≡ n = sizes-number ws n h g in
-    let s : Sizes (sizesOf ws) = sizes-of (acc .sizes .each) in
+    let s : EachSize (sizesOf ws) = acc .sizes .each in
     let few : length (sizesOf ws) ≤ 12 = omega (arith, v, b .1) in
     let es = entries-are ws n h in
     let long : n ≤ length ws - 1 = rw length-drop at (good-long n (drop 1 ws) g) in
@@ -152,18 +134,20 @@ known ws e =
       proper =
           record {
             each =
-                λ k l m v a w.
-                proper-at (sizesOf ws) few s v a (known-words (sizesOf ws) 0 0 (drop (n + 1) ws) f (k - (n + 1)) (behind ws (n + 1) k l m) v a (shifted ws (n + 1) k l ∙ w));
+                λ k l m w.
+                let same = shifted ws (n + 1) k l in
+                proper-at (sizesOf ws) few s (variableIn (getD ws k 0)) (valueIn (getD ws k 0))
+                (rw same at (known-words (sizesOf ws) 0 0 (drop (n + 1) ws) f (k - (n + 1)) (behind ws (n + 1) k l m) (ap kindOf same ∙ w)));
           };
       costs = rw (costs-total [] (drop (n + 1) ws)) (omega (arith, total-bounded (entriesFrom [] (drop (n + 1) ws)) (made .costs), made .number));
       rows =
           ap (λ c. c .rows) (coded-whole (map full (padded (sizesOf ws))) (n + 1) ws)
-          ∙ coded-encoded (sizesOf ws) (padded (sizesOf ws)) (padded-length (sizesOf ws) few) (positive-of (sizes-padded s)) (padded-at (sizesOf ws)) (drop (n + 1) ws) (made .wellFormed)
+          ∙ coded-encoded (sizesOf ws) (padded (sizesOf ws)) (padded-length (sizesOf ws) few) (each-positive (sizes-padded s)) (padded-at (sizesOf ws)) (drop (n + 1) ws) (made .wellFormed)
           ∙ ap (λ q. encoded (padded (sizesOf ws)) q) (sym es);
     })
   where
     behind : (ws : List ℕ) (at k : ℕ) → at ≤ k → k < length ws → k - at < length (drop at ws)
     behind ws at k l m = simp length-drop (omega arith)
 
-    shifted : (ws : List ℕ) (at k : ℕ) → at ≤ k → wordOf (getD (drop at ws) (k - at) 0) ≡ wordOf (getD ws k 0)
+    shifted : (ws : List ℕ) (at k : ℕ) → at ≤ k → getD (drop at ws) (k - at) 0 ≡ getD ws k 0
     shifted ws at k l = let p : at + (k - at) ≡ k = omega arith in rw (getD-drop at ws (k - at) 0, p)

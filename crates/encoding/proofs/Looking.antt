@@ -10,52 +10,51 @@ use lib.Seq.{drop-cons}
 use lib.Dec.{eqb, leb}
 use lib.Pow.{pow-mono}
 use borrow.Author.Tests.{eq-eqb, ne-eqb, le-leb}
-use types.Run.{OneOf, miss}
 use Rattle.wcsp.specs.Clause.{same}
 use Rattle.words.specs.declared.Word.{Word}
-use Rattle.words.specs.declared.Word.the-variants.{Head, Size, Binding, Cost, Signs, Weight, Step, Easting, Northing, Count, Unknown}
+use Rattle.words.specs.declared.Word.the-variants.{Binding, Cost}
+use Rattle.words.specs.Layout.{kindOf}
 use Rattle.words.specs.Meaning.{wordOf}
+use Rattle.words.proofs.Inverse.{binding-kind, cost-kind}
+use Rattle.fields.specs.Limits.{maxVariables, maxValues}
+use Rattle.fields.specs.Entries.{costOf}
 use Rattle.clause.specs.declared.Clause.{Clause}
 use Rattle.clause.specs.Packed.{signsOf, Packed, Holds}
-use Rattle.input.proofs.Others.{placeOf, noEntry}
 use Rattle.table.specs.Valid.{hasSigns}
-use Rattle.encoding.specs.Coding.{costOf, Proper, AllProper, positives, signsAfter, grown, Coded, nothingCoded, codedAfter, codedTo, rowsTo}
+use Rattle.encoding.specs.Coding.{Proper, AllProper, positives, signsAfter, grown, Coded, nothingCoded, codedAfter, codedTo, rowsTo}
 use Rattle.encoding.proofs.Coding.{coded-start, coded-next, coded-rest, coded-whole, length-grown, has-grown, rows-few, has-stays}
 
 -- ---- one word
-
-pub no-signs : (fs s : List ℕ) (w : Word) → OneOf noEntry (placeOf w) → signsAfter fs s w ≡ s
-unfolding signsAfter
-no-signs fs s (Head n) h = refl
-no-signs fs s (Size d) h = refl
-no-signs fs s (Binding v a) h = absurd (miss noEntry 2 tt h)
-no-signs fs s (Cost c) h = absurd (miss noEntry 3 tt h)
-no-signs fs s (Signs k x) h = refl
-no-signs fs s (Weight w) h = refl
-no-signs fs s (Step v i j) h = refl
-no-signs fs s (Easting p) h = refl
-no-signs fs s (Northing p) h = refl
-no-signs fs s (Count k) h = refl
-no-signs fs s Unknown h = refl
 
 -- the bit of a value, as it is shifted
 pub value-bit : (a : ℕ) → a < 8 → (1 * 2 ^ a) % 4294967296 ≡ 2 ^ a
 value-bit a h = omega (arith, pow-mono {i = a} {j = 8} (omega arith))
 
-module _ (x r : Clause) (fs : List ℕ) (w : Word) where
-  pub binding-signs : (v a s p : ℕ) → w ≡ Binding v a → s ≡ getD fs v 0 → p ≡ 2 ^ a → Holds r (set (signsOf x) v (s - p))
+pub proper-binding : (fs : List ℕ) (w v a : ℕ) (read : Word) → Proper fs w → read ≡ wordOf w → read ≡ Binding v a
+    → (v < maxVariables) × (a < maxValues) × (2 ^ a ≤ getD fs v 0)
+proper-binding fs w v a read p e f = let (k, q, u) = binding-kind w v a (sym e ∙ f) in rw (q, u) at (p k)
+
+module _ (x r : Clause) (fs : List ℕ) (w : ℕ) where
+  pub binding-signs : (v a s p : ℕ) → wordOf w ≡ Binding v a → s ≡ getD fs v 0 → p ≡ 2 ^ a → Holds r (set (signsOf x) v (s - p))
       → Holds r (signsAfter fs (signsOf x) w)
   unfolding signsAfter
-  binding-signs v a s p e f g h = rw (e, ← f, ← g) h
+  binding-signs v a s p e f g h =
+      let (k, q, u) = binding-kind w v a e in
+      rw (eq-eqb (kindOf w) 3 k, q, u, ← f, ← g) h
 
-  pub cost-signs : (c : ℕ) → w ≡ Cost c → Holds r (replicate 12 0) → Holds r (signsAfter fs (signsOf x) w)
+  pub cost-signs : (c : ℕ) → wordOf w ≡ Cost c → Holds r (replicate 12 0) → Holds r (signsAfter fs (signsOf x) w)
   unfolding signsAfter
-  cost-signs c e h = rw e h
+  cost-signs c e h =
+      let (k, q) = cost-kind w c e in
+      let n : kindOf w ≡ 3 → ⊥ = λ (z : kindOf w ≡ 3). omega arith in
+      rw (ne-eqb (kindOf w) 3 n, eq-eqb (kindOf w) 4 k) h
 
-pub other-signs : (x : Clause) (fs : List ℕ) (w : Word) → Packed x → OneOf noEntry (placeOf w) → Holds x (signsAfter fs (signsOf x) w)
-other-signs x fs w p h = record { packed = p; signsAre = sym (no-signs fs (signsOf x) w h) }
+pub other-signs : (x : Clause) (fs : List ℕ) (w : ℕ) → Packed x → (eqb (kindOf w) 3 ≡ false) × (eqb (kindOf w) 4 ≡ false)
+    → Holds x (signsAfter fs (signsOf x) w)
+unfolding signsAfter
+other-signs x fs w p (a, b) = rw (a, b) (record { packed = p; signsAre = refl })
 
-module _ (w : Word) (k : ℕ) (s : Bool) (e : k ≡ costOf w) where
+module _ (w k : ℕ) (s : Bool) (e : k ≡ costOf w) where
   pub adds-none : k ≡ 0 → false ≡ (not (eqb (costOf w) 0) && s)
   adds-none z = rw (← e, eq-eqb k 0 z)
 
@@ -65,7 +64,7 @@ module _ (w : Word) (k : ℕ) (s : Bool) (e : k ≡ costOf w) where
 -- ---- the words of cost above 0
 
 module _ (ws : List ℕ) (whole n i : ℕ) (inv : n + positives (drop i ws) ≡ whole) where
-  module _ (c : ℕ) (w : Word) (h : i < length ws) (e : w ≡ wordOf (getD ws i 0)) (f : c ≡ costOf w) where
+  module _ (c : ℕ) (w : ℕ) (h : i < length ws) (e : w ≡ getD ws i 0) (f : c ≡ costOf w) where
     one-word : positives (drop i ws) ≡ cond (eqb c 0) 0 1 + positives (drop (i + 1) ws)
     unfolding positives
     one-word = rw (f, e, drop-cons ws i 0 h, add-one i)
@@ -92,7 +91,7 @@ module _ (fs : List ℕ) (at : ℕ) (ws : List ℕ) where
   open-start x h = record { from = omega arith; holds = rw (coded-start fs at ws) h }
 
   -- the rows behind word i
-  module _ (x : Clause) (i : ℕ) (o : Open fs at ws x i) (h : i < length ws) (w : Word) (e : w ≡ wordOf (getD ws i 0)) where
+  module _ (x : Clause) (i : ℕ) (o : Open fs at ws x i) (h : i < length ws) (w : ℕ) (e : w ≡ getD ws i 0) where
     pub open-next : (y : Clause) → Holds y (signsAfter fs (signsOf x) w) → Open fs at ws y (i + 1)
     unfolding codedAfter
     open-next y g =
@@ -106,9 +105,9 @@ module _ (fs : List ℕ) (at : ℕ) (ws : List ℕ) where
         ∙ ap₂ (λ W s. grown (costOf W) s (rowsTo fs at i ws)) (sym e) (sym (o .holds .signsAre))
 
 -- a word that is read is proper as the words are
-pub proper-read : {fs : List ℕ} {at : ℕ} {ws : List ℕ} → AllProper fs at ws → (i : ℕ) → at ≤ i → i < length ws → (w : Word) → w ≡ wordOf (getD ws i 0)
+pub proper-read : {fs : List ℕ} {at : ℕ} {ws : List ℕ} → AllProper fs at ws → (i : ℕ) → at ≤ i → i < length ws → (w : ℕ) → w ≡ getD ws i 0
     → Proper fs w
-proper-read p i h l w e v a q = p .each i h l v a (sym e ∙ q)
+proper-read p i h l w e k = rw e (p .each i h l (ap kindOf (sym e) ∙ k))
 
 -- ---- an earlier clause
 
@@ -120,7 +119,7 @@ pub unseen-start : (fs : List ℕ) (at : ℕ) (ws c : List ℕ) (x : Clause) →
 unfolding hasSigns
 unseen-start fs at ws c x h = record { «open» = open-start fs at ws x h; none = ap (λ (st : Coded). hasSigns c (st .rows)) (coded-start fs at ws) }
 
-module _ (fs : List ℕ) (at : ℕ) (ws c : List ℕ) (x : Clause) (i : ℕ) (u : Unseen fs at ws c x i) (h : i < length ws) (w : Word) (e : w ≡ wordOf (getD ws i 0))
+module _ (fs : List ℕ) (at : ℕ) (ws c : List ℕ) (x : Clause) (i : ℕ) (u : Unseen fs at ws c x i) (h : i < length ws) (w : ℕ) (e : w ≡ getD ws i 0)
     (b : Bool) (f : b ≡ (not (eqb (costOf w) 0) && same (signsOf x) c)) where
   behind : hasSigns c (rowsTo fs at (i + 1) ws) ≡ b
   behind =
@@ -143,10 +142,10 @@ seen-not fs at ws c x i end u e = rw (← e) (sym (u .none))
 -- ---- how many rows
 
 -- what the word at i adds: one row, unless its cost is 0 or an earlier entry has its clause
-pub fresh-none : (w : Word) (k m : ℕ) → k ≡ costOf w → k ≡ 0 → (_≡_ {A = ℕ} 0 (cond (eqb (costOf w) 0) 0 m)) × (0 ≤ 1)
+pub fresh-none : (w k m : ℕ) → k ≡ costOf w → k ≡ 0 → (_≡_ {A = ℕ} 0 (cond (eqb (costOf w) 0) 0 m)) × (0 ≤ 1)
 fresh-none w k m e z = (rw (← e, eq-eqb k 0 z), omega arith)
 
-module _ (w : Word) (k : ℕ) (s : Bool) (e : k ≡ costOf w) where
+module _ (w k : ℕ) (s : Bool) (e : k ≡ costOf w) where
   pub fresh-seen : (b : Bool) → (k ≡ 0 → ⊥) → b ≡ s → b ≡ true → (_≡_ {A = ℕ} 0 (cond (eqb (costOf w) 0) 0 (cond s 0 1))) × (0 ≤ 1)
   fresh-seen b z f g = (rw (← e, ne-eqb k 0 z, ← f, g), omega arith)
 
@@ -163,7 +162,7 @@ pub counted-start : (fs : List ℕ) (at : ℕ) (ws : List ℕ) (x : Clause) → 
 counted-start fs at ws x l h = record { «open» = open-start fs at ws x h; upto = l; few = omega arith; is = sym (ap (λ (st : Coded). length (st .rows)) (coded-start fs at ws)) }
 
 module _ (fs : List ℕ) (at : ℕ) (ws : List ℕ) (x : Clause) (count i : ℕ) (u : Counted fs at ws x count i) where
-  pub counted-next : i < length ws → (w : Word) → w ≡ wordOf (getD ws i 0) → (m : ℕ)
+  pub counted-next : i < length ws → (w : ℕ) → w ≡ getD ws i 0 → (m : ℕ)
       → (m ≡ cond (eqb (costOf w) 0) 0 (cond (hasSigns (signsOf x) (rowsTo fs at i ws)) 0 1)) × (m ≤ 1)
       → (y : Clause) → Holds y (signsAfter fs (signsOf x) w) → Counted fs at ws y (count + m) (i + 1)
   counted-next h w e m (f, l) y g =

@@ -1,5 +1,5 @@
 -- One clause merged into rows: which signs the rows then have, how many they are, what they weigh together, and the raw rows that carry them.
-use Prim.Native.Nat.{ℕ, zero, suc, _+_, _<_, _≤_}
+use Prim.Native.Nat.{ℕ, zero, suc, _+_, _≤_}
 use native.Mathlib.Nat.{le-of-suc-le-suc}
 use native.Mathlib.Omega.{arith}
 use mathlib.Core.Path.{_≡_, refl, sym, ap, _∙_}
@@ -12,20 +12,20 @@ use Rattle.wcsp.specs.Row.{Row, merge, Absent, nilAbsent, consAbsent}
 use Rattle.wcsp.specs.Resolve.{noRow}
 use Rattle.wcsp.proofs.Lists.{same-eq, same-sym}
 use Rattle.wcsp.proofs.Adding.{rowOf}
-use Rattle.words.specs.Layout.{payloadOf, weightWord}
 use Rattle.clause.specs.declared.Clause.{Clause}
 use Rattle.clause.specs.Packed.{signsOf, Packed}
-use Rattle.clause.proofs.Signs12.{same-blocks}
+use Rattle.rows.specs.Adding.{addedAt, added}
 use Rattle.rows.specs.declared.Found.{Found}
 use Rattle.rows.specs.declared.Found.the-variants.{At, Missing}
-use Rattle.rows.specs.Raw.{noRaw, rawRow, findFrom, reweighed}
+use Rattle.rows.specs.Raw.{maxWeight, noRaw, weightIn, rawRow, findFrom, reweighed}
+use Rattle.rows.proofs.RowWords.{weight-rawRow}
+use Rattle.table.specs.Clauses.{clauseFrom}
 use Rattle.table.specs.Valid.{hasSigns}
-use Rattle.table.specs.Check.{clauseFrom}
 use Rattle.table.specs.Raws.{rawOf}
-use Rattle.table.proofs.Twelve.{Twelve, twelve-signsOf, signs-clauseFrom}
-use Rattle.table.proofs.RawRows.{AllCarried, nilCarried, consCarried, payload-weight}
+use Rattle.table.proofs.Twelve.{Twelve, clauseFrom-signs}
+use Rattle.table.proofs.Carried.{AllCarried, nilCarried, consCarried}
 use Rattle.table.proofs.Finding.{FirstWith, found-at, found-missing}
-use Rattle.encoding.specs.Coding.{grown, addedAt, added}
+use Rattle.encoding.specs.Coding.{grown}
 
 -- ---- signs and number
 
@@ -103,15 +103,12 @@ twelve-merge u c t (consTwelve {r = r} {rs = rs} h s) = go (same (r .signs) c) (
     go false ih = consTwelve h ih
 
 -- so raw rows carry them, if they weigh little together
-pub carried-twelve : {rs : List Row} → AllTwelve rs → heft rs < 268435456 → AllCarried rs
+pub carried-twelve : {rs : List Row} → AllTwelve rs → heft rs ≤ maxWeight → AllCarried rs
 unfolding heft
 carried-twelve nilTwelve l = nilCarried
 carried-twelve (consTwelve {r = r} h s) l = consCarried {r = r} (record { twelve = h; light = omega arith }) (carried-twelve s (omega arith))
 
 -- ---- raw rows
-
-pub packed-back : (x : Clause) → Packed x → clauseFrom (signsOf x) ≡ x
-packed-back x p = same-blocks (clauseFrom (signsOf x)) x (signs-clauseFrom (signsOf x) (twelve-signsOf x p))
 
 -- no row has the signs: the clause comes last
 merge-missing : (u : ℕ) {c : List ℕ} {rs : List Row} → Absent c rs → map rawOf (merge u rs c) ≡ map rawOf rs ++ (rawOf (rowOf c u) ∷ [])
@@ -124,11 +121,11 @@ first-below f = record { within = le-of-suc-le-suc (f .within); has = f .has; be
 
 -- row k is the first that has them: it gains the weight
 merge-first : (u : ℕ) (c : List ℕ) {rs : List Row} (k : ℕ) → AllCarried rs → FirstWith c rs k
-    → map rawOf (merge u rs c) ≡ reweighed (map rawOf rs) k (weightWord (payloadOf (getD (map rawOf rs) k noRaw .w) + u))
+    → map rawOf (merge u rs c) ≡ reweighed (map rawOf rs) k (weightIn (getD (map rawOf rs) k noRaw) + u)
 unfolding merge reweighed
 merge-first u c k nilCarried f = absurd (omega (arith, f .within))
 merge-first u c zero (consCarried {r = r} {rs = rs} h t) f =
-    let p : payloadOf (weightWord (r .weight)) ≡ r .weight = payload-weight (r .weight) (h .light) in
+    let p : weightIn (rawOf r) ≡ r .weight = weight-rawRow (clauseFrom (r .signs)) (r .weight) (h .light) in
     rw (f .has, p)
 merge-first u c (suc k) (consCarried {r = r} {rs = rs} h t) f =
     rw (f .before 0 (omega arith)) (ap (λ l. rawOf r ∷ l) (merge-first u c k t (first-below f)))
@@ -143,5 +140,5 @@ added-grown rs x u h p = go (eqb u 0) (findFrom (rawRow x 0) 0 (map rawOf rs)) r
     go true f e = refl
     go false (At k) e = sym (merge-first u (signsOf x) k h (found-at x h k e))
     go false Missing e =
-        let q : rawOf (rowOf (signsOf x) u) ≡ rawRow x u = ap (λ y. rawRow y u) (packed-back x p) in
+        let q : rawOf (rowOf (signsOf x) u) ≡ rawRow x u = ap (λ y. rawRow y u) (clauseFrom-signs x) in
         sym (merge-missing u (found-missing x h e) ∙ ap (λ r. map rawOf rs ++ (r ∷ [])) q)

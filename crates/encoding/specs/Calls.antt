@@ -1,14 +1,15 @@
 -- The encode call: its answer and its table, for good and refused calls alike.
-use Prim.Native.Nat.{ℕ, zero, suc}
+use Prim.Native.Nat.{ℕ}
 use mathlib.Core.Bool.{cond}
 use mathlib.Core.List.{List}
 use lib.ListN.{length}
 use lib.Dec.{eqb, ltb}
 use Rattle.wcsp.specs.Row.{Row}
 use Rattle.wcsp.specs.Entry.{encoded}
-use Rattle.input.specs.declared.Answer.{Answer}
-use Rattle.input.specs.Instance.{instanceFault, sizesOf, entriesOf, padded}
-use Rattle.input.specs.Calls.{refused, good}
+use Rattle.fields.specs.declared.Answer.{Answer}
+use Rattle.fields.specs.Padding.{padded}
+use Rattle.fields.specs.Answers.{refused, good}
+use Rattle.input.specs.Instance.{instanceFault, sizesOf, entriesOf}
 use Rattle.table.specs.Layout.{rowsAt, capacity, tableWords}
 
 -- an answer and the table as the call returns

@@ -7,57 +7,40 @@ ghost use lib.ListN.{length, take, drop, replicate};
 ghost use lib.Dec.{eqb, leb};
 ghost use Rattle.wcsp.specs.Sign.{full};
 ghost use Rattle.wcsp.specs.Clause.{same};
-ghost use Rattle.words.specs.Layout.{sizeWord};
+ghost use Rattle.fields.specs.Entries.{EachSize, costOf};
 ghost use Rattle.clause.specs.Packed.{signsOf, Packed, Holds};
-ghost use Rattle.rows.specs.Raw.{rawsIn, Left};
+ghost use Rattle.rows.specs.Raw.{Left};
 ghost use Rattle.table.specs.Layout.{tableWords};
 ghost use Rattle.table.specs.Valid.{hasSigns};
-ghost use Rattle.table.specs.Check.{Sizes};
 ghost use Rattle.table.specs.Raws.{rawOf};
 ghost use Rattle.encoding.specs.Calls.{encodeCall};
-ghost use Rattle.encoding.specs.Coding.{costOf, Proper, AllProper, positives, signsAfter, rowsTo, added, Addable, Encodable};
+ghost use Rattle.encoding.specs.Coding.{Proper, AllProper, positives, signsAfter, rowsTo, Encodable};
 use clause::Clause;
-use input::Answer;
-use rows::Found;
+use fields::Answer;
 use words::Word;
-
-fn wide(x: u8) -> u32
-    ensures { λ r. ⌜ (r ≡ x) × (r < 256) ⌝ }
-{
-    x as u32
-}
 
 // The full signs of twelve variables.
 fn full_signs(sizes: &[u8; 12]) -> Clause
-    requires { ⌜ (length (now sizes) ≡ 12) × Sizes (now sizes) ⌝ }
+    requires { ⌜ (length (now sizes) ≡ 12) × EachSize (now sizes) ⌝ }
     ensures { λ r. ⌜ Holds r (map full (now (sizes .entry))) ⌝ }
 {
     let mut fulls = Clause::empty();
     let mut i: u32 = 0;
     while i < 12 {
         let at = i as usize;
-        fulls = fulls.replaced(i, table::full_sign(wide(sizes[at])));
+        fulls = fulls.replaced(i, table::full_sign(fields::wide(sizes[at])));
         i += 1;
     }
     fulls
 }
 
-// The cost that a word gives, 0 if it is no cost word.
-fn cost_of(w: Word) -> u32
-    ensures { λ r. ⌜ r ≡ costOf w ⌝ }
-{
-    let Word::Cost(c) = w else {
-        return 0;
-    };
-    c
-}
-
 // The signs of the open entry behind a word: a binding leaves the named value out, a cost word ends the entry.
-fn signs_after(pending: Clause, w: Word, fulls: Clause) -> Clause
+fn signs_after(pending: Clause, w: u32, fulls: Clause) -> Clause
     requires { ⌜ Packed pending × Packed fulls × Proper (signsOf fulls) w ⌝ }
     ensures { λ r. ⌜ Holds r (signsAfter (signsOf fulls) (signsOf pending) w) ⌝ }
 {
-    match w {
+    let word = words::read(w);
+    match word {
         Word::Binding(v, a) => {
             let value = 1u32 << a;
             let sign = fulls.sign(v) - value;
@@ -75,7 +58,7 @@ fn positive(instance: &[u32], at: usize) -> usize
     let mut n: usize = 0;
     let mut i = at;
     while i < instance.len() {
-        if cost_of(words::read(instance[i])) != 0 {
+        if fields::cost_of(instance[i]) != 0 {
             n += 1;
         }
         i += 1;
@@ -84,11 +67,11 @@ fn positive(instance: &[u32], at: usize) -> usize
 }
 
 // The word ends an entry of cost above 0 whose signs are this clause's.
-fn adds(pending: Clause, w: Word, clause: Clause) -> bool
+fn adds(pending: Clause, w: u32, clause: Clause) -> bool
     requires { ⌜ Packed pending × Packed clause ⌝ }
     ensures { λ r. ⌜ r ≡ (not (eqb (costOf w) 0) && same (signsOf pending) (signsOf clause)) ⌝ }
 {
-    if cost_of(w) == 0 {
+    if fields::cost_of(w) == 0 {
         return false;
     }
     pending.equals(clause)
@@ -102,7 +85,7 @@ fn seen(instance: &[u32], at: usize, end: usize, fulls: Clause, clause: Clause) 
     let mut pending = Clause::empty();
     let mut i = at;
     while i < end {
-        let w = words::read(instance[i]);
+        let w = instance[i];
         if adds(pending, w, clause) {
             return true;
         }
@@ -113,11 +96,11 @@ fn seen(instance: &[u32], at: usize, end: usize, fulls: Clause, clause: Clause) 
 }
 
 // How many rows the word at an index adds: one if it ends an entry of cost above 0 whose clause no earlier entry has.
-fn fresh(instance: &[u32], at: usize, end: usize, fulls: Clause, pending: Clause, w: Word) -> usize
+fn fresh(instance: &[u32], at: usize, end: usize, fulls: Clause, pending: Clause, w: u32) -> usize
     requires { ⌜ (at ≤ end) × (end ≤ length (now instance)) × Packed fulls × Packed pending × AllProper (signsOf fulls) at (now instance) ⌝ }
     ensures { λ r. ⌜ (r ≡ cond (eqb (costOf w) 0) 0 (cond (hasSigns (signsOf pending) (rowsTo (signsOf fulls) at end (now (instance .entry)))) 0 1)) × (r ≤ 1) ⌝ }
 {
-    if cost_of(w) == 0 {
+    if fields::cost_of(w) == 0 {
         return 0;
     }
     if seen(instance, at, end, fulls, pending) {
@@ -135,7 +118,7 @@ fn distinct(instance: &[u32], at: usize, fulls: Clause) -> usize
     let mut count: usize = 0;
     let mut i = at;
     while i < instance.len() {
-        let w = words::read(instance[i]);
+        let w = instance[i];
         count += fresh(instance, at, i, fulls, pending, w);
         pending = signs_after(pending, w, fulls);
         i += 1;
@@ -166,45 +149,14 @@ fn zero_from(t: &mut [u32], at: usize)
     }
 }
 
-// The sizes of n variables behind the head.
-fn write_sizes(t: &mut [u32], n: usize, sizes: &[u8; 12])
-    requires { ⌜ (n ≤ 12) × (length (now sizes) ≡ 12) × (n + 1 ≤ length (now t)) ⌝ }
-    ensures { λ r. ⌜ (take n (drop 1 (now (t .exit))) ≡ map sizeWord (take n (now (sizes .entry)))) × (drop (n + 1) (now (t .exit)) ≡ drop (n + 1) (now (t .entry))) × (length (now (t .exit)) ≡ length (now (t .entry))) ⌝ }
-{
-    let mut i: usize = 0;
-    while i < n {
-        t[i + 1] = words::size(wide(sizes[i]));
-        i += 1;
-    }
-}
-
 // The table of no rows over the whole slice.
 fn clear(t: &mut [u32], n: usize, sizes: &[u8; 12])
     requires { ⌜ (n ≤ 12) × (length (now sizes) ≡ 12) × (n + 2 ≤ length (now t)) ⌝ }
     ensures { λ r. ⌜ now (t .exit) ≡ tableWords (length (now (t .entry))) (take n (now (sizes .entry))) [] ⌝ }
 {
-    zero_from(t, n + 2);
-    write_sizes(t, n, sizes);
-    t[0] = words::head(n as u32);
+    zero_from(t, n + 1);
+    fields::write_front(t, sizes, n);
     t[n + 1] = words::count(0);
-}
-
-// A clause added to the rows: its weight goes to the row with its signs, else to a new last row; weight 0 adds nothing. Answers the number of rows.
-fn add(t: &mut [u32], base: usize, count: usize, x: Clause, weight: u32) -> usize
-    requires { ⌜ Addable (now t) base count x weight ⌝ }
-    ensures { λ r. ⌜ Left (now (t .entry)) base (now (t .exit)) (added (rawsIn (now (t .entry)) base count) x weight) × (r ≡ length (added (rawsIn (now (t .entry)) base count) x weight)) ⌝ }
-{
-    if weight == 0 {
-        return count;
-    }
-    let found = rows::find(t, base, count, x);
-    let Found::At(k) = found else {
-        rows::append(t, base, count, x, weight);
-        return count + 1;
-    };
-    let sum = rows::weight_of(t, base, k) + weight;
-    rows::reweigh(t, base, count, k, sum);
-    count
 }
 
 // The rows of the entries from an index on, in a table without rows. Answers their number.
@@ -216,8 +168,8 @@ fn encode_entries(instance: &[u32], at: usize, t: &mut [u32], base: usize, fulls
     let mut count: usize = 0;
     let mut i = at;
     while i < instance.len() {
-        let w = words::read(instance[i]);
-        count = add(t, base, count, pending, cost_of(w));
+        let w = instance[i];
+        count = rows::add(t, base, count, pending, fields::cost_of(w) as u64);
         pending = signs_after(pending, w, fulls);
         i += 1;
     }

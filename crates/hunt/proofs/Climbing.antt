@@ -18,7 +18,7 @@ use Rattle.hunt.specs.Hunt.{huntedOf, Cleared, Settled}
 use Rattle.hunt.proofs.TableRows.{rowsIn, twelve-sizes}
 use Rattle.hunt.proofs.Pairing as pairing
 
-nothing-none : (o : Option Pair) → huntedOf o ≡ Nothing → o ≡ none
+pub nothing-none : (o : Option Pair) → huntedOf o ≡ Nothing → o ≡ none
 unfolding huntedOf
 nothing-none none e = refl
 nothing-none (some pr) e = cc

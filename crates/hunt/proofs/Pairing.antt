@@ -17,7 +17,7 @@ use Rattle.wcsp.proofs.Cleared.{partner-skip, pairIn-skip}
 use Rattle.clause.specs.declared.Clause.{Clause}
 use Rattle.clause.specs.Packed.{signsOf, FullSigns}
 use Rattle.clause.proofs.Signs12.{signsOf-length}
-use Rattle.rows.specs.Raw.{rawAt, clauseIn}
+use Rattle.rows.specs.Raw.{rowWidth, rawAt, clauseIn}
 use Rattle.rows.specs.declared.Found.{Found}
 use Rattle.rows.specs.declared.Found.the-variants.{At, Missing}
 use Rattle.hunt.specs.declared.Hunted.the-variants.{Next, Nothing}
@@ -59,7 +59,7 @@ module _ (t : List ℕ) (base count v skip from : ℕ) (fulls : Clause) where
   module _ (i least : ℕ) (h : i < count) (tried : Over (λ ds. Tried ds i least)) where
     -- the clause of row i
     abbrev at-i : Clause
-    at-i = clauseIn (rawAt t (base + 5 * i))
+    at-i = clauseIn (rawAt t (base + rowWidth * i))
 
     read : signsAt (rowsIn t base count) i ≡ signsOf at-i
     read = signs-read t base count i h at-i refl

@@ -13,7 +13,7 @@ use Rattle.wcsp.specs.Rule.{clashing, nested}
 use Rattle.wcsp.specs.Resolve.{candidate, partner}
 use Rattle.clause.specs.declared.Clause.{Clause}
 use Rattle.clause.specs.Packed.{signsOf, FullSigns}
-use Rattle.rows.specs.Raw.{rawAt, clauseIn}
+use Rattle.rows.specs.Raw.{rowWidth, rawAt, clauseIn}
 use Rattle.rows.specs.declared.Found.the-variants.{At, Missing}
 use Rattle.table.proofs.RawRows.{length-rowsFrom}
 use Rattle.hunt.specs.Hunt.{foundOf}
@@ -33,7 +33,7 @@ module _ (t : List ℕ) (base count : ℕ) (x : Clause) (v : ℕ) (fulls : Claus
   module _ (from j : ℕ) (h : j < count) (sought : Sought from j) where
     -- the clause of row j
     abbrev at-j : Clause
-    at-j = clauseIn (rawAt t (base + 5 * j))
+    at-j = clauseIn (rawAt t (base + rowWidth * j))
 
     passed : Over (λ ds. candidate ds v (signsOf x) (signsOf at-j) ≡ false) → Sought from (j + 1)
     passed n ds f r g k =

@@ -1,32 +1,20 @@
 -- The rows of a table one by one: the row at a place has the signs of the clause that its words hold there, and there are as many as are counted.
-use Prim.Native.Nat.{ℕ, zero, suc, _+_, _*_, _<_}
+use Prim.Native.Nat.{ℕ, _+_, _*_, _<_}
 use native.Mathlib.Omega.{arith}
 use mathlib.Core.Path.{_≡_, sym, ap, _∙_}
 use mathlib.Core.List.{List, map}
-use lib.ListN.{length, getD, drop, length-map}
-use lib.Seq.{drop-drop}
+use lib.ListN.{length, drop, length-map}
 use Rattle.wcsp.specs.Sign.{full}
 use Rattle.wcsp.specs.Clause.{ValidClause}
 use Rattle.wcsp.specs.Row.{Row, ValidRows}
-use Rattle.wcsp.specs.Resolve.{noRow}
 use Rattle.wcsp.proofs.Validity.{valid-signs}
 use Rattle.wcsp.proofs.PairSearch.{signsAt}
 use Rattle.clause.specs.declared.Clause.{Clause}
 use Rattle.clause.specs.Packed.{signsOf, FullSigns}
 use Rattle.clause.proofs.Signs12.{signsOf-length}
-use Rattle.rows.specs.Raw.{rawAt, clauseIn}
-use Rattle.table.specs.Meaning.{rowFrom, rowsFrom}
+use Rattle.rows.specs.Raw.{rowWidth, rawAt, clauseIn}
+use Rattle.table.specs.Meaning.{rowsFrom}
 use Rattle.table.proofs.RawRows.{signs-at, length-rowsFrom}
-
-row-at : (k : ℕ) (t : List ℕ) (base j : ℕ) → j < k → getD (rowsFrom k (drop base t)) j noRow ≡ rowFrom (drop (base + 5 * j) t)
-unfolding rowsFrom
-row-at zero t base j h = absurd (omega arith)
-row-at (suc k) t base zero h = let e : base ≡ base + 5 * 0 = omega arith in ap (λ n. rowFrom (drop n t)) e
-row-at (suc k) t base (suc j) h =
-    let e : base + 5 + 5 * j ≡ base + 5 * suc j = omega arith in
-    ap (λ ws. getD (rowsFrom k ws) j noRow) (drop-drop 5 base t)
-    ∙ row-at k t (base + 5) j (omega arith)
-    ∙ ap (λ n. rowFrom (drop n t)) e
 
 abbrev pub rowsIn : List ℕ → ℕ → ℕ → List Row
 rowsIn t base count = rowsFrom count (drop base t)
@@ -36,9 +24,9 @@ module _ (t : List ℕ) (base count j : ℕ) (h : j < count) where
   in-rows = omega (arith, length-rowsFrom count (drop base t))
 
   -- y is the clause that was read at row j
-  module _ (y : Clause) (e : y ≡ clauseIn (rawAt t (base + 5 * j))) where
+  module _ (y : Clause) (e : y ≡ clauseIn (rawAt t (base + rowWidth * j))) where
     pub signs-read : signsAt (rowsIn t base count) j ≡ signsOf y
-    signs-read = ap (λ r. r .signs) (row-at count t base j h) ∙ signs-at t (base + 5 * j) ∙ ap signsOf (sym e)
+    signs-read = signs-at t base count j h ∙ ap signsOf (sym e)
 
     pub valid-read : (ds : List ℕ) → ValidRows ds (rowsIn t base count) → ValidClause ds (signsOf y)
     valid-read ds r = rw signs-read at (valid-signs j r in-rows)

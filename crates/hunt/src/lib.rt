@@ -7,7 +7,7 @@ ghost use Rattle.wcsp.specs.Clause.{ValidClause, bucket};
 ghost use Rattle.wcsp.specs.Row.{ValidRows};
 ghost use Rattle.wcsp.specs.Resolve.{partner, pairIn, nextPair};
 ghost use Rattle.clause.specs.Packed.{signsOf, Packed, FullSigns};
-ghost use Rattle.rows.specs.Raw.{rawAt, clauseIn};
+ghost use Rattle.rows.specs.Raw.{rowWidth, rawAt, clauseIn};
 ghost use Rattle.table.specs.Meaning.{rowsFrom};
 ghost use Rattle.hunt.specs.Hunt.{foundOf, huntedOf, Cleared, Settled};
 use clause::Clause;
@@ -21,10 +21,10 @@ pub enum Hunted {
 
 // The sign of row k at variable v, from one word of the row.
 fn sign_at(t: &[u32], base: usize, k: usize, v: u32) -> u32
-    requires { ⌜ (base + 5 * k + 5 ≤ length (now t)) × (v < 12) ⌝ }
-    ensures { λ r. ⌜ r ≡ getD (signsOf (clauseIn (rawAt (now (t .entry)) (base + 5 * k)))) v 0 ⌝ }
+    requires { ⌜ (base + rowWidth * k + rowWidth ≤ length (now t)) × (v < 12) ⌝ }
+    ensures { λ r. ⌜ r ≡ getD (signsOf (clauseIn (rawAt (now (t .entry)) (base + rowWidth * k)))) v 0 ⌝ }
 {
-    let at = base + 5 * k + (v / 3) as usize;
+    let at = base + rows::WIDTH * k + (v / 3) as usize;
     (t[at] >> (8 * (v % 3))) % 256
 }
 
@@ -38,7 +38,7 @@ fn seek(
     from: usize,
     fulls: Clause,
 ) -> Found
-    requires { ⌜ (base + 5 * count ≤ length (now t)) × Packed x × Packed fulls × (v < 12) ⌝ }
+    requires { ⌜ (base + rowWidth * count ≤ length (now t)) × Packed x × Packed fulls × (v < 12) ⌝ }
     ensures { λ r. ⌜ ((ds : List ℕ) → FullSigns fulls ds → ValidRows ds (rowsFrom count (drop base (now (t .entry)))) → ValidClause ds (signsOf x) → bucket (signsOf x) ≡ v → r ≡ foundOf (partner ds v (signsOf x) from (drop from (rowsFrom count (drop base (now (t .entry))))))) ⌝ }
 {
     let sign = x.sign(v);
@@ -67,7 +67,7 @@ fn pair_in(
     from: usize,
     fulls: Clause,
 ) -> Hunted
-    requires { ⌜ (base + 5 * count ≤ length (now t)) × Packed fulls × (v < 12) ⌝ }
+    requires { ⌜ (base + rowWidth * count ≤ length (now t)) × Packed fulls × (v < 12) ⌝ }
     ensures { λ r. ⌜ ((ds : List ℕ) → FullSigns fulls ds → ValidRows ds (rowsFrom count (drop base (now (t .entry)))) → Cleared ds v skip from (rowsFrom count (drop base (now (t .entry)))) → r ≡ huntedOf (pairIn ds v 0 (rowsFrom count (drop base (now (t .entry)))))) ⌝ }
 {
     let mut i = skip;
@@ -102,7 +102,7 @@ pub fn hunt(
     from: usize,
     fulls: Clause,
 ) -> Hunted
-    requires { ⌜ (base + 5 * count ≤ length (now t)) × Packed fulls × (v ≤ 12) ⌝ }
+    requires { ⌜ (base + rowWidth * count ≤ length (now t)) × Packed fulls × (v ≤ 12) ⌝ }
     ensures { λ r. ⌜ ((ds : List ℕ) → FullSigns fulls ds → ValidRows ds (rowsFrom count (drop base (now (t .entry)))) → Settled ds v (rowsFrom count (drop base (now (t .entry)))) → Cleared ds v skip from (rowsFrom count (drop base (now (t .entry)))) → r ≡ huntedOf (nextPair ds (rowsFrom count (drop base (now (t .entry)))))) ⌝ }
 {
     let mut s = v;

@@ -1,20 +1,18 @@
 -- Entries' words without a fault: the entries that they mean are well formed, few enough and of costs within the limit. The bindings of the open entry rise up to the variable that the scan has come to.
-use Prim.Native.Nat.{ℕ, suc, _+_, _*_, _≤_, _<_}
+use Prim.Native.Nat.{ℕ, suc, _≤_, _<_}
 use native.Mathlib.Omega.{arith}
 use mathlib.Core.Path.{_≡_, refl}
 use mathlib.Core.Bool.{Bool, true, false, _&&_, cond}
 use mathlib.Core.List.{List, [], _∷_, _++_}
 use lib.ListN.{length, getD}
-use lib.Dec.{leb, ltb}
+use lib.Dec.{eqb, leb, ltb}
 use borrow.Author.Tests.{leb-true, leb-false, ltb-true, ltb-false}
-use Rattle.wcsp.specs.Entry.{Binding, Entry, Rising, nilRising, consRising, nilEntries, consEntries, matches, cost}
-use Rattle.words.specs.declared.Word.{Word}
-use Rattle.words.specs.declared.Word.the-variants.{Head, Size, Cost, Signs, Weight, Step, Easting, Northing, Count, Unknown}
-use Rattle.words.specs.declared.Word.the-variants.{Binding as BindingOf}
-use Rattle.words.specs.Meaning.{wordOf}
-use Rattle.input.specs.Instance.{goes, stops, maxCost, maxEntries, scanBinding, scanCost, scanWord, resume, entriesFault, entriesAfter, entriesFrom}
+use Rattle.wcsp.specs.Entry.{Binding, Rising, nilRising, consRising, nilEntries, consEntries}
+use Rattle.words.specs.Layout.{kindOf, payloadOf, variableIn, valueIn}
+use Rattle.fields.specs.Limits.{maxCost, maxEntries}
+use Rattle.fields.specs.Entries.{entriesFrom, nilEach, consEach, Entries}
+use Rattle.input.specs.Instance.{goes, stops, scanBinding, scanCost, scanWord, resume, entriesFault}
 use Rattle.input.proofs.Scanning.{known}
-use Rattle.input.specs.Accepted.{Each, nilEach, consEach, Entries}
 
 -- ---- the bindings of an open entry
 
@@ -80,37 +78,22 @@ module _ (ds : List ℕ) where
           }
 
   entries-good : (ws : List ℕ) (from count : ℕ) → Rest from count ws
-  unfolding Rest entriesFault entriesFrom scanWord
+  unfolding Rest entriesFault entriesFrom scanWord resume
   entries-good [] from count bs l r e = record { wellFormed = nilEntries; number = omega arith; costs = nilEach }
-  entries-good (w ∷ ws) from count bs l r e = go (wordOf w) (λ f c. entries-good ws f c) e
+  entries-good (w ∷ ws) from count bs l r e = go (eqb (kindOf w) 3) (eqb (kindOf w) 4) (λ f c. entries-good ws f c) e
     where
-      go : (W : Word) → ((f c : ℕ) → Rest f c ws) → resume (λ f c. entriesFault ds f c ws) (scanWord ds from count W) ≡ 0
-          → Entries ds count (entriesAfter bs (λ b. entriesFrom b ws) W)
-      go (Head n) ih e = absurd (stopped e)
-      go (Size d) ih e = absurd (stopped e)
-      go (BindingOf v a) ih e = binding-kept from count v a ws bs (ih (suc v) count) l r e
-      go (Cost c) ih e = cost-kept count c ws from bs (ih 0 (suc count)) r e
-      go (Signs k x) ih e = absurd (stopped e)
-      go (Weight w) ih e = absurd (stopped e)
-      go (Step s i j) ih e = absurd (stopped e)
-      go (Easting o) ih e = absurd (stopped e)
-      go (Northing o) ih e = absurd (stopped e)
-      go (Count k) ih e = absurd (stopped e)
-      go Unknown ih e = absurd (stopped e)
+      b : Binding
+      b = record { variable = variableIn w; value = valueIn w }
+
+      go : (x y : Bool) → ((f c : ℕ) → Rest f c ws)
+          → resume (λ f c. entriesFault ds f c ws) (cond x (scanBinding ds from count (variableIn w) (valueIn w)) (cond y (scanCost count (payloadOf w)) (stops 3))) ≡ 0
+          → Entries ds count (cond x (entriesFrom (bs ++ (b ∷ [])) ws) (cond y (record { bindings = bs; cost = payloadOf w } ∷ entriesFrom [] ws) (entriesFrom bs ws)))
+      go true y ih e = binding-kept from count (variableIn w) (valueIn w) ws bs (ih (suc (variableIn w)) count) l r e
+      go false true ih e = cost-kept count (payloadOf w) ws from bs (ih 0 (suc count)) r e
+      go false false ih e = absurd (stopped e)
 
 -- from the start
 pub entries-accepted : (ds : List ℕ) (before : ℕ) (ws : List ℕ) → before ≤ maxEntries → entriesFault ds 0 before ws ≡ 0
     → Entries ds before (entriesFrom [] ws)
 unfolding Rest
 entries-accepted ds before ws h e = entries-good ds ws 0 before [] h none e
-
--- ---- the greatest cost
-
-pub cost-bounded : (es : List Entry) (p : List ℕ) → Each (λ e. e .cost ≤ maxCost) es → cost es p ≤ 65535 * length es
-unfolding cost
-cost-bounded [] p nilEach = omega arith
-cost-bounded (e ∷ es) p (consEach h r) = go (matches p (e .bindings)) (cost-bounded es p r)
-  where
-    go : (b : Bool) → cost es p ≤ 65535 * length es → cond b (e .cost) 0 + cost es p ≤ 65535 * suc (length es)
-    go true ih = omega arith
-    go false ih = omega arith

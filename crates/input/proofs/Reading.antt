@@ -1,22 +1,27 @@
 -- The words in front of the entries: what each reader answers, over plain numbers and lists, one law for each way out.
 use Prim.Native.Nat.{ℕ, _≤_, _<_}
 use native.Mathlib.Omega.{arith}
-use mathlib.Core.Path.{_≡_, refl, sym, _∙_}
-use mathlib.Core.Bool.{Bool, true, false, _&&_, cond}
+use mathlib.Core.Path.{_≡_, sym, _∙_}
+use mathlib.Core.Bool.{false}
 use mathlib.Core.List.{List}
+use mathlib.Core.Option.{none}
 use lib.ListN.{length, getD, drop, drop-of-length-le}
-use lib.Dec.{leb}
+use lib.Dec.{eqb}
 use lib.Seq.{drop-cons}
-use borrow.Author.Tests.{ne-eqb, le-leb, lt-leb, leb-true}
+use borrow.Author.Tests.{ne-eqb}
 use Rattle.words.specs.declared.Word.{Word}
 use Rattle.words.specs.declared.Word.the-variants.{Head, Size}
+use Rattle.words.specs.Layout.{kindOf}
 use Rattle.words.specs.Meaning.{wordOf}
+use Rattle.words.proofs.Inverse.{head-kind, size-kind}
+use Rattle.fields.specs.Limits.{maxVariables, maxValues}
+use Rattle.fields.specs.Front.{headIn, sizeIn}
+use Rattle.fields.proofs.Fronts.{below, above, head-is, head-none, head-out, size-is, size-none, size-out}
 use Rattle.input.specs.declared.Next.{Next}
 use Rattle.input.specs.declared.Next.the-variants.{End}
 use Rattle.input.specs.declared.Next.the-variants.{Word as Found}
 use Rattle.input.specs.declared.Got.the-variants.{Number, Fault}
-use Rattle.input.specs.Instance.{maxVariables, maxValues, between, variablesIn, sizeIn}
-use Rattle.input.specs.Phases.{nextOf, numbered, gotBy}
+use Rattle.input.specs.Phases.{nextOf, nextBy, headGot, sizeGot}
 
 -- ---- the next word
 
@@ -24,61 +29,54 @@ pub next-end : (ws : List ℕ) (at : ℕ) → length ws ≤ at → End ≡ nextO
 unfolding nextOf
 next-end ws at h = rw (drop-of-length-le ws h)
 
-pub next-found : (ws : List ℕ) (at : ℕ) (w : Word) → at < length ws → w ≡ wordOf (getD ws at 0) → Found w ≡ nextOf (drop at ws)
+pub next-found : (ws : List ℕ) (at : ℕ) → at < length ws → Found (getD ws at 0) ≡ nextOf (drop at ws)
 unfolding nextOf
-next-found ws at w h e = rw (drop-cons ws at 0 h, e)
+next-found ws at h = rw (drop-cons ws at 0 h)
 
--- ---- the number of the next word
+module _ {A : Type 0} (without : A) (with : ℕ → A) (next x : Next) (e : x ≡ next) where
+  pub by-end : x ≡ End → without ≡ nextBy without with next
+  unfolding nextBy
+  by-end g = let h : next ≡ End = sym e ∙ g in rw h
 
-numbered-none : (f : ℕ) → Fault f ≡ numbered f 0
-unfolding numbered
-numbered-none f = refl
+  pub by-word : (w : ℕ) (r : A) → x ≡ Found w → r ≡ with w → r ≡ nextBy without with next
+  unfolding nextBy
+  by-word w r g f = let h : next ≡ Found w = sym e ∙ g in rw (h, f)
 
-numbered-some : (f k : ℕ) → 0 < k → Number k ≡ numbered f k
-unfolding numbered
-numbered-some f k h = rw (ne-eqb k 0 (omega arith))
+-- ---- a head, and a station word
 
-module _ (f : ℕ) (pick : Word → ℕ) (next x : Next) (e : x ≡ next) where
-  pub got-end : x ≡ End → Fault f ≡ gotBy f pick next
-  unfolding gotBy
-  got-end g = let h : next ≡ End = sym e ∙ g in rw h
+head-missed : (w : ℕ) → headIn w ≡ none → Fault 1 ≡ headGot w
+unfolding headGot
+head-missed w e = rw e
 
-  pub got-none : (w : Word) → x ≡ Found w → pick w ≡ 0 → Fault f ≡ gotBy f pick next
-  unfolding gotBy
-  got-none w g h = let i : next ≡ Found w = sym e ∙ g in rw (i, h) (numbered-none f)
+size-missed : (w : ℕ) → sizeIn w ≡ 0 → Fault 2 ≡ sizeGot w
+unfolding sizeGot
+size-missed w e = rw e
 
-  pub got-some : (w : Word) (k : ℕ) → x ≡ Found w → pick w ≡ k → 0 < k → Number k ≡ gotBy f pick next
-  unfolding gotBy
-  got-some w k g h l = let i : next ≡ Found w = sym e ∙ g in rw (i, h) (numbered-some f k l)
+pub head-other : (w : ℕ) → eqb (kindOf w) 1 ≡ false → Fault 1 ≡ headGot w
+head-other w e = head-missed w (head-none w e)
 
--- ---- the number of variables and of values, within their limits
+pub size-other : (w : ℕ) → eqb (kindOf w) 2 ≡ false → Fault 2 ≡ sizeGot w
+size-other w e = size-missed w (size-none w e)
 
-pub low : (k most : ℕ) → k < 1 → cond (between 1 k most) k 0 ≡ 0
-low k most h = rw (lt-leb 1 k h)
+module _ (w k : ℕ) (read : Word) (e : read ≡ wordOf w) where
+  module _ (g : read ≡ Head k) where
+    pub head-low : k < 1 → Fault 1 ≡ headGot w
+    head-low h = let (s, p) = head-kind w k (sym e ∙ g) in head-missed w (head-out w k s p (below 1 k maxVariables h))
 
-pub high : (k most : ℕ) → most < k → cond (between 1 k most) k 0 ≡ 0
-high k most h = go (leb 1 k)
-  where
-    go : (b : Bool) → cond (b && leb k most) k 0 ≡ 0
-    go true = rw (lt-leb k most h)
-    go false = refl
+    pub head-high : maxVariables < k → Fault 1 ≡ headGot w
+    head-high h = let (s, p) = head-kind w k (sym e ∙ g) in head-missed w (head-out w k s p (above 1 k maxVariables h))
 
-pub within : (k most : ℕ) → 1 ≤ k → k ≤ most → cond (between 1 k most) k 0 ≡ k
-within k most l h = rw (le-leb 1 k l, le-leb k most h)
+    pub head-good : 1 ≤ k → k ≤ maxVariables → Number k ≡ headGot w
+    unfolding headGot
+    head-good l h = let (s, p) = head-kind w k (sym e ∙ g) in rw (head-is w k s p l h)
 
-pub variables-in : (w : Word) (n m : ℕ) → w ≡ Head n → cond (between 1 n maxVariables) n 0 ≡ m → variablesIn w ≡ m
-unfolding variablesIn
-variables-in w n m e f = rw e f
+  module _ (g : read ≡ Size k) where
+    pub size-low : k < 1 → Fault 2 ≡ sizeGot w
+    size-low h = let (s, p) = size-kind w k (sym e ∙ g) in size-missed w (size-out w k s p (below 1 k maxValues h))
 
-pub size-in : (w : Word) (d m : ℕ) → w ≡ Size d → cond (between 1 d maxValues) d 0 ≡ m → sizeIn w ≡ m
-unfolding sizeIn
-size-in w d m e f = rw e f
+    pub size-high : maxValues < k → Fault 2 ≡ sizeGot w
+    size-high h = let (s, p) = size-kind w k (sym e ∙ g) in size-missed w (size-out w k s p (above 1 k maxValues h))
 
--- a number that was found within its limit is the one that was looked at
-pub limited : (most d k : ℕ) → cond (between 1 k most) k 0 ≡ d → 1 ≤ d → (k ≡ d) × (k ≤ most)
-limited most d k e h = go (leb 1 k) (leb k most) refl refl e
-  where
-    go : (a b : Bool) → leb 1 k ≡ a → leb k most ≡ b → cond (a && b) k 0 ≡ d → (k ≡ d) × (k ≤ most)
-    go true true f g e = (e, leb-true k most g)
-    go true false f g e = absurd (omega arith)
-    go false b f g e = absurd (omega arith)
+    pub size-good : 1 ≤ k → k ≤ maxValues → Number k ≡ sizeGot w
+    unfolding sizeGot
+    size-good l h = let (s, p) = size-kind w k (sym e ∙ g) in rw (size-is w k s p l h, ne-eqb k 0 (omega arith))

@@ -11,20 +11,24 @@ use lib.Dec.{eqb, leb, ltb}
 use borrow.Author.Tests.{eq-eqb, ne-eqb, eqb-true, eqb-false, le-leb, lt-leb, lt-ltb, le-ltb, leb-true, leb-false}
 use Rattle.wcsp.specs.Entry.{Binding as Bound}
 use Rattle.words.specs.declared.Word.{Word}
-use Rattle.words.specs.declared.Word.the-variants.{Head, Size, Binding, Cost, Signs, Weight, Step, Easting, Northing, Count, Unknown}
+use Rattle.words.specs.declared.Word.the-variants.{Binding, Cost}
+use Rattle.words.specs.Layout.{kindOf, payloadOf, variableIn, valueIn}
 use Rattle.words.specs.Meaning.{wordOf}
+use Rattle.words.proofs.Inverse.{binding-kind, cost-kind}
+use Rattle.fields.specs.Limits.{maxCost, maxEntries}
+use Rattle.fields.specs.Entries.{entriesFrom}
 use Rattle.input.specs.declared.Got.{Got}
 use Rattle.input.specs.declared.Got.the-variants.{Number, Fault}
-use Rattle.input.specs.Instance.{Scanned, goes, stops, maxCost, maxEntries, scanBinding, scanCost, scanWord, resume, entriesFault, entriesAfter, entriesFrom}
+use Rattle.input.specs.Instance.{Scanned, goes, stops, scanBinding, scanCost, scanWord, resume, entriesFault}
 use Rattle.input.specs.Scan.{scanGot}
 
 -- ---- a variable's size
 
-pub size-none : (sizes : List ℕ) (n v : ℕ) → n ≤ v → 0 ≡ getD (take n sizes) v 0
-size-none sizes n v h = sym (List·getD-eq-default (take n sizes) 0 (omega (arith, length-take n sizes)))
+pub size-past : (sizes : List ℕ) (n v : ℕ) → n ≤ v → 0 ≡ getD (take n sizes) v 0
+size-past sizes n v h = sym (List·getD-eq-default (take n sizes) 0 (omega (arith, length-take n sizes)))
 
-pub size-some : (sizes : List ℕ) (n v r : ℕ) → v < n → r ≡ getD sizes v 0 → r ≡ getD (take n sizes) v 0
-size-some sizes n v r h e = e ∙ sym (getD-take n sizes v 0 h)
+pub size-at : (sizes : List ℕ) (n v r : ℕ) → v < n → r ≡ getD sizes v 0 → r ≡ getD (take n sizes) v 0
+size-at sizes n v r h e = e ∙ sym (getD-take n sizes v 0 h)
 
 -- a variable with a size is known
 pub known : (ds : List ℕ) (v a : ℕ) → a < getD ds v 0 → v < length ds
@@ -65,14 +69,21 @@ pub cost-good : (count c : ℕ) → c ≤ maxCost → count < maxEntries → goe
 unfolding scanCost
 cost-good count c h l = rw (le-ltb maxCost c h, lt-leb maxEntries count l, add-one count)
 
-pub at-binding : (ds : List ℕ) (from count : ℕ) (w : Word) (v a : ℕ) (x : Scanned) → w ≡ Binding v a → x ≡ scanBinding ds from count v a
-    → x ≡ scanWord ds from count w
-unfolding scanWord
-at-binding ds from count w v a x e f = rw e f
+module _ (ds : List ℕ) (from count w : ℕ) (x : Scanned) where
+  module _ (read : Word) (e : read ≡ wordOf w) where
+    pub at-binding : (v a : ℕ) → read ≡ Binding v a → x ≡ scanBinding ds from count v a → x ≡ scanWord ds from count w
+    unfolding scanWord
+    at-binding v a g f = let (k, p, q) = binding-kind w v a (sym e ∙ g) in rw (eq-eqb (kindOf w) 3 k, p, q) f
 
-pub at-cost : (ds : List ℕ) (from count : ℕ) (w : Word) (c : ℕ) (x : Scanned) → w ≡ Cost c → x ≡ scanCost count c → x ≡ scanWord ds from count w
-unfolding scanWord
-at-cost ds from count w c x e f = rw e f
+    pub at-cost : (c : ℕ) → read ≡ Cost c → x ≡ scanCost count c → x ≡ scanWord ds from count w
+    unfolding scanWord
+    at-cost c g f =
+        let (k, p) = cost-kind w c (sym e ∙ g) in
+        rw (ne-eqb (kindOf w) 3 (omega arith), eq-eqb (kindOf w) 4 k, p) f
+
+  pub at-other : (eqb (kindOf w) 3 ≡ false) × (eqb (kindOf w) 4 ≡ false) → x ≡ stops 3 → x ≡ scanWord ds from count w
+  unfolding scanWord
+  at-other (n, m) f = rw (n, m) f
 
 -- ---- what follows a word
 
@@ -97,19 +108,14 @@ cost-stops count c k e = go (ltb maxCost c) (leb maxEntries count) e
 other-stops : (k : ℕ) → stops k ≡ stops 3 → 0 < k
 other-stops k e = let z : k ≡ 3 = cc in omega arith
 
-word-stops : (ds : List ℕ) (from count k : ℕ) (w : Word) → stops k ≡ scanWord ds from count w → 0 < k
+word-stops : (ds : List ℕ) (from count k w : ℕ) → stops k ≡ scanWord ds from count w → 0 < k
 unfolding scanWord
-word-stops ds from count k (Head n) e = other-stops k e
-word-stops ds from count k (Size d) e = other-stops k e
-word-stops ds from count k (Binding v a) e = binding-stops ds from count v a k e
-word-stops ds from count k (Cost c) e = cost-stops count c k e
-word-stops ds from count k (Signs i x) e = other-stops k e
-word-stops ds from count k (Weight w) e = other-stops k e
-word-stops ds from count k (Step s i j) e = other-stops k e
-word-stops ds from count k (Easting o) e = other-stops k e
-word-stops ds from count k (Northing o) e = other-stops k e
-word-stops ds from count k (Count n) e = other-stops k e
-word-stops ds from count k Unknown e = other-stops k e
+word-stops ds from count k w e = go (eqb (kindOf w) 3) (eqb (kindOf w) 4) e
+  where
+    go : (x y : Bool) → stops k ≡ cond x (scanBinding ds from count (variableIn w) (valueIn w)) (cond y (scanCost count (payloadOf w)) (stops 3)) → 0 < k
+    go true y e = binding-stops ds from count (variableIn w) (valueIn w) k e
+    go false true e = cost-stops count (payloadOf w) k e
+    go false false e = other-stops k e
 
 -- a word that lets the scan go on leaves the count, or is a cost word and counts
 binding-goes : (ds : List ℕ) (from count v a f c : ℕ) → goes f c ≡ scanBinding ds from count v a → c ≡ count
@@ -134,66 +140,61 @@ other-goes f c k e = let z : _≡_ {A = ℕ} 0 1 = cc in omega arith
 
 -- how many entries there are does not hang on the bindings of an open one
 pub count-any : (bs cs : List Bound) (ws : List ℕ) → length (entriesFrom bs ws) ≡ length (entriesFrom cs ws)
-unfolding entriesFrom entriesAfter
+unfolding entriesFrom
 count-any bs cs [] = refl
-count-any bs cs (w ∷ ws) = go (wordOf w) (λ bs cs. count-any bs cs ws)
+count-any bs cs (w ∷ ws) = go (eqb (kindOf w) 3) (eqb (kindOf w) 4) (λ bs cs. count-any bs cs ws)
   where
-    go : (W : Word) → ((bs cs : List Bound) → length (entriesFrom bs ws) ≡ length (entriesFrom cs ws))
-        → length (entriesAfter bs (λ b. entriesFrom b ws) W) ≡ length (entriesAfter cs (λ b. entriesFrom b ws) W)
-    go (Head n) ih = ih bs cs
-    go (Size d) ih = ih bs cs
-    go (Binding v a) ih = ih (bs ++ (record { variable = v; value = a } ∷ [])) (cs ++ (record { variable = v; value = a } ∷ []))
-    go (Cost c) ih = refl
-    go (Signs k x) ih = ih bs cs
-    go (Weight w) ih = ih bs cs
-    go (Step s i j) ih = ih bs cs
-    go (Easting o) ih = ih bs cs
-    go (Northing o) ih = ih bs cs
-    go (Count k) ih = ih bs cs
-    go Unknown ih = ih bs cs
+    bound : List Bound → List Bound
+    bound xs = xs ++ (record { variable = variableIn w; value = valueIn w } ∷ [])
 
-count-goes : (ds : List ℕ) (from count f c : ℕ) (ws : List ℕ) (w : Word) → goes f c ≡ scanWord ds from count w
-    → count + length (entriesAfter [] (λ b. entriesFrom b ws) w) ≡ c + length (entriesFrom [] ws)
-unfolding entriesAfter scanWord
-count-goes ds from count f c ws (Head n) e = absurd (other-goes f c 3 e)
-count-goes ds from count f c ws (Size d) e = absurd (other-goes f c 3 e)
-count-goes ds from count f c ws (Binding v a) e =
-    omega (arith, binding-goes ds from count v a f c e, count-any (record { variable = v; value = a } ∷ []) [] ws)
-count-goes ds from count f c ws (Cost x) e = omega (arith, cost-goes count x f c e)
-count-goes ds from count f c ws (Signs k x) e = absurd (other-goes f c 3 e)
-count-goes ds from count f c ws (Weight w) e = absurd (other-goes f c 3 e)
-count-goes ds from count f c ws (Step s i j) e = absurd (other-goes f c 3 e)
-count-goes ds from count f c ws (Easting o) e = absurd (other-goes f c 3 e)
-count-goes ds from count f c ws (Northing o) e = absurd (other-goes f c 3 e)
-count-goes ds from count f c ws (Count n) e = absurd (other-goes f c 3 e)
-count-goes ds from count f c ws Unknown e = absurd (other-goes f c 3 e)
+    found : Bool → Bool → List Bound → ℕ
+    found x y xs =
+        length
+        (cond x (entriesFrom (bound xs) ws)
+        (cond y (record { bindings = xs; cost = payloadOf w } ∷ entriesFrom [] ws) (entriesFrom xs ws)))
+
+    go : (x y : Bool) → ((bs cs : List Bound) → length (entriesFrom bs ws) ≡ length (entriesFrom cs ws)) → found x y bs ≡ found x y cs
+    go true y ih = ih (bound bs) (bound cs)
+    go false true ih = refl
+    go false false ih = ih bs cs
+
+count-goes : (ds : List ℕ) (from count f c : ℕ) (ws : List ℕ) (w : ℕ) → goes f c ≡ scanWord ds from count w
+    → count + length (entriesFrom [] (w ∷ ws)) ≡ c + length (entriesFrom [] ws)
+unfolding entriesFrom scanWord
+count-goes ds from count f c ws w e = go (eqb (kindOf w) 3) (eqb (kindOf w) 4) e
+  where
+    b : Bound
+    b = record { variable = variableIn w; value = valueIn w }
+
+    go : (x y : Bool) → goes f c ≡ cond x (scanBinding ds from count (variableIn w) (valueIn w)) (cond y (scanCost count (payloadOf w)) (stops 3))
+        → count + length (cond x (entriesFrom (b ∷ []) ws) (cond y (record { bindings = []; cost = payloadOf w } ∷ entriesFrom [] ws) (entriesFrom [] ws)))
+        ≡ c + length (entriesFrom [] ws)
+    go true y e = omega (arith, binding-goes ds from count (variableIn w) (valueIn w) f c e, count-any (b ∷ []) [] ws)
+    go false true e = omega (arith, cost-goes count (payloadOf w) f c e)
+    go false false e = absurd (other-goes f c 3 e)
 
 -- the answer for the whole, from the fault and the count
 answer : ℕ → ℕ → Got
 answer f k = cond (eqb f 0) (Number k) (Fault f)
 
 module _ (ds : List ℕ) (from count w : ℕ) (ws : List ℕ) where
-  scan-on : (f c : ℕ) → goes f c ≡ scanWord ds from count (wordOf w) → scanGot ds from count (w ∷ ws) ≡ scanGot ds f c ws
-  unfolding scanGot answer entriesFault entriesFrom
-  scan-on f c e =
-      ap₂ answer (ap (resume (λ f′ c′. entriesFault ds f′ c′ ws)) (sym e)) (count-goes ds from count f c ws (wordOf w) e)
+  scan-on : (f c : ℕ) → goes f c ≡ scanWord ds from count w → scanGot ds from count (w ∷ ws) ≡ scanGot ds f c ws
+  unfolding scanGot answer entriesFault
+  scan-on f c e = ap₂ answer (ap (resume (λ f′ c′. entriesFault ds f′ c′ ws)) (sym e)) (count-goes ds from count f c ws w e)
 
-  scan-off : (k : ℕ) → stops k ≡ scanWord ds from count (wordOf w) → Fault k ≡ scanGot ds from count (w ∷ ws)
+  scan-off : (k : ℕ) → stops k ≡ scanWord ds from count w → Fault k ≡ scanGot ds from count (w ∷ ws)
   unfolding scanGot entriesFault resume
-  scan-off k e = rw (← e, ne-eqb k 0 (omega (arith, word-stops ds from count k (wordOf w) e)))
+  scan-off k e = rw (← e, ne-eqb k 0 (omega (arith, word-stops ds from count k w e)))
 
 module _ (ds : List ℕ) (from count : ℕ) (ws : List ℕ) (i : ℕ) where
-  pub scan-goes : (f c : ℕ) (x : Scanned) (w : Word) → i < length ws → w ≡ wordOf (getD ws i 0) → x ≡ scanWord ds from count w → x ≡ goes f c
+  pub scan-goes : (f c : ℕ) (x : Scanned) → i < length ws → x ≡ scanWord ds from count (getD ws i 0) → x ≡ goes f c
       → scanGot ds from count (drop i ws) ≡ scanGot ds f c (drop (i + 1) ws)
-  scan-goes f c x w h g e k =
-      rw (drop-cons ws i 0 h, add-one i)
-      (scan-on ds from count (getD ws i 0) (drop (suc i) ws) f c (sym k ∙ e ∙ ap (scanWord ds from count) g))
+  scan-goes f c x h e k =
+      rw (drop-cons ws i 0 h, add-one i) (scan-on ds from count (getD ws i 0) (drop (suc i) ws) f c (sym k ∙ e))
 
-  pub scan-stops : (k : ℕ) (x : Scanned) (w : Word) → i < length ws → w ≡ wordOf (getD ws i 0) → x ≡ scanWord ds from count w → x ≡ stops k
+  pub scan-stops : (k : ℕ) (x : Scanned) → i < length ws → x ≡ scanWord ds from count (getD ws i 0) → x ≡ stops k
       → Fault k ≡ scanGot ds from count (drop i ws)
-  scan-stops k x w h g e l =
-      rw (drop-cons ws i 0 h)
-      (scan-off ds from count (getD ws i 0) (drop (suc i) ws) k (sym l ∙ e ∙ ap (scanWord ds from count) g))
+  scan-stops k x h e l = rw (drop-cons ws i 0 h) (scan-off ds from count (getD ws i 0) (drop (suc i) ws) k (sym l ∙ e))
 
   pub scan-open : length ws ≤ i → (from ≡ 0 → ⊥) → Fault 3 ≡ scanGot ds from count (drop i ws)
   unfolding scanGot entriesFault

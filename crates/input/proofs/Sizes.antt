@@ -2,85 +2,76 @@
 use Prim.Native.Nat.{ℕ, zero, suc, _+_, _-_, _≤_, _<_}
 use native.Mathlib.Omega.{arith}
 use mathlib.Core.Path.{_≡_, refl, sym, ap, _∙_}
-use mathlib.Core.Bool.{Bool, true, false, cond}
+use mathlib.Core.Bool.{Bool, true, false, not, _&&_, cond}
 use mathlib.Core.List.{List, [], _∷_, _++_, map, append-nil}
 use lib.ListN.{length, take, drop, set, replicate}
 use lib.Seq.{append-snoc, drop-drop}
 use lib.Dec.{eqb}
 use borrow.Author.Tests.{eqb-false, ne-eqb}
-use Rattle.words.specs.declared.Word.{Word}
-use Rattle.words.specs.declared.Word.the-variants.{Head, Size, Binding, Cost, Signs, Weight, Step, Easting, Northing, Count, Unknown}
 use Rattle.words.specs.Layout.{payloadOf}
-use Rattle.words.specs.Meaning.{wordOf}
-use Rattle.words.proofs.Inverse.{size-inverse}
+use Rattle.fields.specs.Limits.{maxVariables, maxValues}
+use Rattle.fields.specs.Front.{sizeIn, goodSizes}
+use Rattle.fields.proofs.Fronts.{size-some}
 use Rattle.input.specs.declared.Got.{Got}
 use Rattle.input.specs.declared.Got.the-variants.{Number, Fault}
-use Rattle.input.specs.Instance.{maxValues, sizeIn, entriesFault, stationsFault}
-use Rattle.input.specs.Phases.{nextOf, numbered, gotBy, goodSizes, sizesRead, refusedStations}
-use Rattle.input.proofs.Reading.{limited}
+use Rattle.input.specs.declared.Stations.{Stations}
+use Rattle.input.specs.Instance.{entriesFault, stationsFault}
+use Rattle.input.specs.Phases.{nextOf, nextBy, sizeGot, sizeNext, sizesRead, refusedStations}
 use Rattle.input.proofs.Filling.{Filling, filling-start, filling-step, filling-end}
 
 -- ---- a station word that was read
 
 -- the words start with a station word of size d
 pub data Sized : List ℕ → ℕ → Type 0 where
-  sized : {w d : ℕ} {ws : List ℕ} → 1 ≤ d → sizeIn (wordOf w) ≡ d → Sized (w ∷ ws) d
+  withSize : {w d : ℕ} {ws : List ℕ} → 1 ≤ d → sizeIn w ≡ d → Sized (w ∷ ws) d
 
-pub sized-of : (ws : List ℕ) (d : ℕ) → Number d ≡ gotBy 2 sizeIn (nextOf ws) → Sized ws d
-unfolding gotBy nextOf numbered
-sized-of [] d e = let z : _≡_ {A = ℕ} 0 1 = cc in absurd (omega arith)
-sized-of (w ∷ ws) d e = go (eqb (sizeIn (wordOf w)) 0) refl e
+-- what a station word's answer tells, and what a fault tells
+size-got : (w : ℕ) {d : ℕ} → Number d ≡ sizeGot w → (1 ≤ d) × (sizeIn w ≡ d)
+unfolding sizeGot
+size-got w {d} e = go (eqb (sizeIn w) 0) refl e
   where
-    go : (b : Bool) → eqb (sizeIn (wordOf w)) 0 ≡ b → Number d ≡ cond b (Fault 2) (Number (sizeIn (wordOf w))) → Sized (w ∷ ws) d
+    go : (b : Bool) → eqb (sizeIn w) 0 ≡ b → Number d ≡ cond b (Fault 2) (Number (sizeIn w)) → (1 ≤ d) × (sizeIn w ≡ d)
     go true f g = let z : _≡_ {A = ℕ} 0 1 = cc in absurd (omega arith)
     go false f g =
-        let h : sizeIn (wordOf w) ≡ d = cc in
-        let n = eqb-false (sizeIn (wordOf w)) 0 f in
-        let l : 1 ≤ d = omega arith in
-        sized l h
+        let h : sizeIn w ≡ d = cc in
+        let n = eqb-false (sizeIn w) 0 f in
+        (omega arith, h)
+
+pub size-fault : (w f : ℕ) → Fault f ≡ sizeGot w → eqb (sizeIn w) 0 ≡ true
+unfolding sizeGot
+size-fault w f e = go (eqb (sizeIn w) 0) e
+  where
+    go : (b : Bool) → Fault f ≡ cond b (Fault 2) (Number (sizeIn w)) → b ≡ true
+    go true g = refl
+    go false g = let z : _≡_ {A = ℕ} 0 1 = cc in absurd (omega arith)
+
+pub sized-of : (ws : List ℕ) (d : ℕ) → Number d ≡ sizeNext ws → Sized ws d
+unfolding nextBy nextOf
+sized-of [] d e = let z : _≡_ {A = ℕ} 0 1 = cc in absurd (omega arith)
+sized-of (w ∷ ws) d e = let (l, h) = size-got w e in withSize l h
 
 -- a size is 1 to 8, and the whole payload of its word
-size-word : (w : Word) (d : ℕ) → sizeIn w ≡ d → 1 ≤ d → (w ≡ Size d) × (d ≤ 8)
-unfolding sizeIn
-size-word (Head n) d e h = absurd (omega arith)
-size-word (Size k) d e h = let l = limited maxValues d k e h in (ap Size (l .0), omega arith)
-size-word (Binding v a) d e h = absurd (omega arith)
-size-word (Cost c) d e h = absurd (omega arith)
-size-word (Signs k x) d e h = absurd (omega arith)
-size-word (Weight w) d e h = absurd (omega arith)
-size-word (Step s i j) d e h = absurd (omega arith)
-size-word (Easting p) d e h = absurd (omega arith)
-size-word (Northing p) d e h = absurd (omega arith)
-size-word (Count k) d e h = absurd (omega arith)
-size-word Unknown d e h = absurd (omega arith)
-
-pub size-payload : (w d : ℕ) → sizeIn (wordOf w) ≡ d → 1 ≤ d → (payloadOf w ≡ d) × (d ≤ 8)
+pub size-payload : (w d : ℕ) → sizeIn w ≡ d → 1 ≤ d → (payloadOf w ≡ d) × (d ≤ maxValues)
 size-payload w d e h =
-    let s = size-word (wordOf w) d e h in
-    let l = s .1 in
-    let i = size-inverse w d (s .0) in
-    omega arith
+    let (k, p, l, m) = size-some w (λ (z : sizeIn w ≡ 0). let q : d ≡ 0 = sym e ∙ z in omega arith) in
+    (sym p ∙ e, omega arith)
 
-pub sized-bounds : (ws : List ℕ) (d : ℕ) → Sized ws d → (1 ≤ d) × (d ≤ 8) × (1 ≤ length ws)
-sized-bounds (w ∷ ws) d (sized h e) = let s = size-payload w d e h in omega arith
+pub sized-bounds : (ws : List ℕ) (d : ℕ) → Sized ws d → (1 ≤ d) × (d ≤ maxValues) × (1 ≤ length ws)
+sized-bounds (w ∷ ws) d (withSize h e) = let s = size-payload w d e h in omega arith
 
 -- ---- k stations
 
 good-more : (k d : ℕ) (ws : List ℕ) → Sized ws d → goodSizes (suc k) ws ≡ goodSizes k (drop 1 ws)
 unfolding goodSizes
-good-more k d (w ∷ ws) (sized h e) = rw (ne-eqb (sizeIn (wordOf w)) 0 (omega arith))
+good-more k d (w ∷ ws) (withSize h e) = rw (ne-eqb (sizeIn w) 0 (omega arith))
 
 payload-more : (k d : ℕ) (ws : List ℕ) → Sized ws d → map payloadOf (take (suc k) ws) ≡ d ∷ map payloadOf (take k (drop 1 ws))
-payload-more k d (w ∷ ws) (sized h e) = rw (size-payload w d e h .0)
+payload-more k d (w ∷ ws) (withSize h e) = rw (size-payload w d e h .0)
 
-good-none : (k f : ℕ) (ws : List ℕ) → Fault f ≡ gotBy 2 sizeIn (nextOf ws) → goodSizes (suc k) ws ≡ false
-unfolding goodSizes gotBy nextOf numbered
+good-none : (k f : ℕ) (ws : List ℕ) → Fault f ≡ sizeNext ws → goodSizes (suc k) ws ≡ false
+unfolding goodSizes nextBy nextOf
 good-none k f [] e = refl
-good-none k f (w ∷ ws) e = go (eqb (sizeIn (wordOf w)) 0) e
-  where
-    go : (b : Bool) → Fault f ≡ cond b (Fault 2) (Number (sizeIn (wordOf w))) → cond b false (goodSizes k ws) ≡ false
-    go true e = refl
-    go false e = let z : _≡_ {A = ℕ} 0 1 = cc in absurd (omega arith)
+good-none k f (w ∷ ws) e = rw (size-fault w f e)
 
 -- ---- the loop over them: i are read
 
@@ -89,8 +80,8 @@ pub record SizesSoFar (ws : List ℕ) (n : ℕ) (sizes : List ℕ) (i : ℕ) : T
   pub good : goodSizes n (drop 1 ws) ≡ goodSizes (n - i) (drop (i + 1) ws)
   pub filled : Filling (map payloadOf (take n (drop 1 ws))) sizes i (map payloadOf (take (n - i) (drop (i + 1) ws)))
 
-module _ (ws : List ℕ) (n : ℕ) (sizes : List ℕ) (i : ℕ) (limit : n ≤ 12) (inv : SizesSoFar ws n sizes i) where
-  pub sizes-fault : (x : Got) (f : ℕ) → i < n → x ≡ gotBy 2 sizeIn (nextOf (drop (i + 1) ws)) → x ≡ Fault f
+module _ (ws : List ℕ) (n : ℕ) (sizes : List ℕ) (i : ℕ) (limit : n ≤ maxVariables) (inv : SizesSoFar ws n sizes i) where
+  pub sizes-fault : (x : Got) (f : ℕ) → i < n → x ≡ sizeNext (drop (i + 1) ws) → x ≡ Fault f
       → refusedStations ≡ sizesRead n ws
   unfolding sizesRead
   sizes-fault x f h e g =
@@ -122,7 +113,7 @@ module _ (ws : List ℕ) (n : ℕ) (sizes : List ℕ) (i : ℕ) (limit : n ≤ 1
       let o : n + 1 ≡ 1 + n = omega arith in
       rw (g, o, ← filling-end (map payloadOf (take n (drop 1 ws))) sizes n limit f)
 
-pub sizes-start : (ws : List ℕ) (n : ℕ) → SizesSoFar ws n (replicate 12 1) 0
+pub sizes-start : (ws : List ℕ) (n : ℕ) → SizesSoFar ws n (replicate maxVariables 1) 0
 sizes-start ws n =
     let e : n - 0 ≡ n = omega arith in
     record {
@@ -131,22 +122,40 @@ sizes-start ws n =
       filled = rw e (filling-start (map payloadOf (take n (drop 1 ws))));
     }
 
--- the fault of the stations, then that of the entries
+-- ---- what the answer tells, of an instance's stations and of a sheet's
+
+module _ (b : Bool) (found : Stations) (zero-found : found .number ≡ 0) (read : Stations) (r : read ≡ cond b found refusedStations) where
+  pub stations-taken : read .number ≡ 0 → (b ≡ true) × (read ≡ found)
+  stations-taken z = go b r
+    where
+      go : (x : Bool) → read ≡ cond x found refusedStations → (x ≡ true) × (read ≡ found)
+      go true e = (refl, e)
+      go false e = let k : read .number ≡ 2 = ap (λ (x : Stations). x .number) e in absurd (omega arith)
+
+  pub stations-refused : (read .number ≡ 0 → ⊥) → (b ≡ false) × (read .number ≡ 2)
+  stations-refused n = go b r
+    where
+      go : (x : Bool) → read ≡ cond x found refusedStations → (x ≡ false) × (read .number ≡ 2)
+      go true e = absurd (n (ap (λ (x : Stations). x .number) e ∙ zero-found))
+      go false e = (refl, ap (λ (x : Stations). x .number) e)
+
+-- ---- the fault of the stations, then that of the entries
+
 pub stations-apart : (k : ℕ) (sizes ws : List ℕ) → stationsFault k sizes ws
     ≡ cond (goodSizes k ws) (entriesFault (sizes ++ map payloadOf (take k ws)) 0 0 (drop k ws)) 2
 unfolding stationsFault goodSizes
 stations-apart zero sizes ws = ap (λ xs. entriesFault xs 0 0 ws) (sym (append-nil sizes))
 stations-apart (suc k) sizes [] = refl
-stations-apart (suc k) sizes (w ∷ ws) =
-    go (eqb (sizeIn (wordOf w)) 0) refl (stations-apart k (sizes ++ (sizeIn (wordOf w) ∷ [])) ws)
+stations-apart (suc k) sizes (w ∷ ws) = go (eqb (sizeIn w) 0) refl (stations-apart k (sizes ++ (sizeIn w ∷ [])) ws)
   where
-    go : (b : Bool) → eqb (sizeIn (wordOf w)) 0 ≡ b
-        → stationsFault k (sizes ++ (sizeIn (wordOf w) ∷ [])) ws
-        ≡ cond (goodSizes k ws) (entriesFault (sizes ++ (sizeIn (wordOf w) ∷ []) ++ map payloadOf (take k ws)) 0 0 (drop k ws)) 2
-        → cond b 2 (stationsFault k (sizes ++ (sizeIn (wordOf w) ∷ [])) ws)
-        ≡ cond (cond b false (goodSizes k ws)) (entriesFault (sizes ++ (payloadOf w ∷ map payloadOf (take k ws))) 0 0 (drop k ws)) 2
+    go : (b : Bool) → eqb (sizeIn w) 0 ≡ b
+        → stationsFault k (sizes ++ (sizeIn w ∷ [])) ws
+        ≡ cond (goodSizes k ws) (entriesFault (sizes ++ (sizeIn w ∷ []) ++ map payloadOf (take k ws)) 0 0 (drop k ws)) 2
+        → cond b 2 (stationsFault k (sizes ++ (sizeIn w ∷ [])) ws)
+        ≡ cond (not b && goodSizes k ws) (entriesFault (sizes ++ (payloadOf w ∷ map payloadOf (take k ws))) 0 0 (drop k ws)) 2
     go true f ih = refl
     go false f ih =
-        let n = eqb-false (sizeIn (wordOf w)) 0 f in
-        let p : payloadOf w ≡ sizeIn (wordOf w) = size-payload w (sizeIn (wordOf w)) refl (omega arith) .0 in
-        rw (p, ← append-snoc sizes (sizeIn (wordOf w)) (map payloadOf (take k ws))) ih
+        let n = eqb-false (sizeIn w) 0 f in
+        let p : payloadOf w ≡ sizeIn w = size-payload w (sizeIn w) refl (omega arith) .0 in
+        ih ∙ ap (λ ds. cond (goodSizes k ws) (entriesFault ds 0 0 (drop k ws)) 2)
+        (append-snoc sizes (sizeIn w) (map payloadOf (take k ws)) ∙ ap (λ d. sizes ++ (d ∷ map payloadOf (take k ws))) (sym p))

@@ -1,36 +1,23 @@
-// Instances and sheets, read in one pass: the fault nearest the front decides.
+// Instances, read in one pass: the fault nearest the front decides. The readers of the phases serve sheets too.
 pub mod entries;
-mod front;
-mod reader;
+pub mod front;
+pub mod reader;
 
+use fields::MAX_VARIABLES;
 ghost use mathlib.Core.Path.{_≡_};
-ghost use Rattle.input.specs.Calls.{validateCall, sheetCall, costCall, refusedInstance, refusedSheet, faultIn};
+ghost use Rattle.input.specs.Calls.{validateCall, refusedInstance, faultIn};
 
 // An instance's number (0: accepted), its variables, its entries, and the sizes of twelve variables, those it lacks being 1.
 pub struct Validated {
     pub number: u32,
     pub variables: u32,
     pub entries: u32,
-    pub sizes: [u8; 12],
+    pub sizes: [u8; MAX_VARIABLES],
 }
 
-// A sheet's number (0: accepted), its variables, the index of its first entry word, and the sizes as in Validated.
-pub struct SheetRead {
-    pub number: u32,
-    pub variables: u32,
-    pub entries_at: usize,
-    pub sizes: [u8; 12],
-}
-
-// A number, 0 for success, and a value, 0 where refused.
-pub struct Answer {
-    pub number: u32,
-    pub value: u64,
-}
-
-// The next word, by its kind, or the end of the words.
+// The next word, or the end of the words.
 pub enum Next {
-    Word(words::Word),
+    Word(u32),
     End,
 }
 
@@ -44,7 +31,7 @@ pub enum Got {
 pub struct Stations {
     pub number: u32,
     pub behind: usize,
-    pub sizes: [u8; 12],
+    pub sizes: [u8; MAX_VARIABLES],
 }
 
 // The state of the scan behind an entry word: the lowest variable that may be bound next (0: no entry is open) and the
@@ -77,55 +64,6 @@ pub fn validate(words: &[u32]) -> Validated
     }
 }
 
-pub fn read_sheet(words: &[u32]) -> SheetRead
-    ensures { λ r. ⌜ r ≡ sheetCall (now (words .entry)) ⌝ }
-{
-    let Got::Number(n) = front::read_head(words) else {
-        return refused_sheet(1);
-    };
-    let read = front::read_stations(words, n as usize);
-    if read.number != 0 {
-        return refused_sheet(read.number);
-    }
-    let sizes = read.sizes;
-    let at = read.behind;
-    let legs = front::count_legs(&sizes, n as usize);
-    let got = entries::scan_entries(words, at, &sizes, n as usize, legs);
-    let Got::Number(_) = got else {
-        return refused_sheet(fault_in(got));
-    };
-    SheetRead {
-        number: 0,
-        variables: n,
-        entries_at: at,
-        sizes,
-    }
-}
-
-pub fn cost(words: &[u32], plan: &[u8]) -> Answer
-    ensures { λ r. ⌜ r ≡ costCall (now (words .entry)) (now (plan .entry)) ⌝ }
-{
-    let read = validate(words);
-    if read.number != 0 {
-        return Answer {
-            number: read.number,
-            value: 0,
-        };
-    }
-    let sizes = read.sizes;
-    let n = read.variables as usize;
-    if !entries::is_assignment(&sizes, n, plan) {
-        return Answer {
-            number: 7,
-            value: 0,
-        };
-    }
-    Answer {
-        number: 0,
-        value: entries::cost_from(words, n + 1, plan),
-    }
-}
-
 fn refused_instance(k: u32) -> Validated
     ensures { λ r. ⌜ r ≡ refusedInstance k ⌝ }
 {
@@ -133,22 +71,11 @@ fn refused_instance(k: u32) -> Validated
         number: k,
         variables: 0,
         entries: 0,
-        sizes: [0; 12],
+        sizes: [0; MAX_VARIABLES],
     }
 }
 
-fn refused_sheet(k: u32) -> SheetRead
-    ensures { λ r. ⌜ r ≡ refusedSheet k ⌝ }
-{
-    SheetRead {
-        number: k,
-        variables: 0,
-        entries_at: 0,
-        sizes: [0; 12],
-    }
-}
-
-fn fault_in(got: Got) -> u32
+pub fn fault_in(got: Got) -> u32
     ensures { λ r. ⌜ r ≡ faultIn got ⌝ }
 {
     match got {

@@ -9,14 +9,14 @@ pub struct Reader<'a> {
     pub at: usize,
 }
 
-// The word at an index, by its kind.
+// The word at an index.
 fn next_word(words: &[u32], at: usize) -> Next
     ensures { λ r. ⌜ r ≡ nextOf (drop at (now (words .entry))) ⌝ }
 {
     if words.len() <= at {
         return Next::End;
     }
-    Next::Word(words::read(words[at]))
+    Next::Word(words[at])
 }
 
 // A reader that has come up to an index.

@@ -4,14 +4,14 @@ use mathlib.Core.Path.{_≡_, sym, ap, _∙_}
 use mathlib.Core.List.{List, [], _∷_}
 use lib.ListN.{take}
 use borrow.Author.Tests.{ne-eqb}
-use Rattle.input.specs.declared.Answer.{Answer}
+use Rattle.fields.specs.declared.Answer.{Answer}
 use Rattle.resolution.specs.declared.StepAnswer.{StepAnswer}
 use Rattle.resolution.specs.declared.Outcome.{Outcome}
 use Rattle.resolution.specs.declared.RunAnswer.{RunAnswer}
 use Rattle.resolution.specs.Numbers.{stepNumber, stepFields, outcomeField, runFields}
-use Rattle.checker.specs.declared.CheckAnswer.{CheckAnswer}
-use Rattle.calls.specs.declared.Driven.{Driven}
-use Rattle.calls.specs.Demand.{Upheld}
+use Rattle.checker.specs.Calls.{CheckReturned}
+use Rattle.calls.specs.Demand.{UpheldFrom}
+use Rattle.calls.specs.Driver.{DriveReturned, driveAll, Drives}
 use Rattle.library.specs.Noted.{noted}
 
 pub answer-told : (answer call : Answer) (xs ys : List ℕ) → answer ≡ call → ys ≡ noted xs (answer .value ∷ [])
@@ -38,16 +38,23 @@ pub stopped-field : (o : Outcome) (k : ℕ) → o ≡ Outcome.Refused k → (k �
 unfolding outcomeField
 stopped-field o k e h = let f = ne-eqb k 9 h in rw (e, f)
 
-pub check-told : (answer call : CheckAnswer) (xs ys : List ℕ) → answer ≡ call → ys ≡ noted xs (answer .steps ∷ [])
-    → (answer .number ≡ call .number) × (ys ≡ noted xs (call .steps ∷ []))
-check-told answer call xs ys e h =
-    (ap (λ (a : CheckAnswer). a .number) e, h ∙ ap (λ (a : CheckAnswer). noted xs (a .steps ∷ [])) e)
+-- what a check leaves, with its steps noted
+pub check-told : (r call : CheckReturned) (xs ys : List ℕ) → r ≡ call → ys ≡ noted xs (r .answer .steps ∷ [])
+    → (r .answer .number ≡ call .answer .number) × (r .table ≡ call .table) × (ys ≡ noted xs (call .answer .steps ∷ []))
+check-told r call xs ys e h =
+    (ap (λ k. k .answer .number) e, ap (λ k. k .table) e, h ∙ ap (λ k. noted xs (k .answer .steps ∷ [])) e)
 
-pub drive-told : (answer call : Driven) (xs ys : List ℕ) → answer ≡ call → ys ≡ noted xs (answer .steps ∷ [])
-    → (answer .number ≡ call .number) × (ys ≡ noted xs (call .steps ∷ []))
-drive-told answer call xs ys e h = (ap (λ (a : Driven). a .number) e, h ∙ ap (λ (a : Driven). noted xs (a .steps ∷ [])) e)
-
-pub upheld-told : (answer call : Driven) (inst t left out : List ℕ) → answer ≡ call
-    → (answer .number ≡ 0 → Upheld inst t left (take (answer .steps) out)) → answer .number ≡ 0
-    → Upheld inst t left (take (call .steps) out)
-upheld-told answer call inst t left out e h good = rw e at (h good)
+-- what the driver leaves, with its steps noted, and what it upholds where its number is 0
+pub drive-told : (inst t calls out target : List ℕ) (r : DriveReturned) (xs ys : List ℕ) → Drives inst t calls out target r
+    → ys ≡ noted xs (r .answer .steps ∷ [])
+    → let d = driveAll inst t calls out target in
+    (r .answer .number ≡ d .answer .number) × (r .table ≡ d .table) × (r .out ≡ d .out) × (r .target ≡ d .target)
+    × (ys ≡ noted xs (d .answer .steps ∷ [])) × (r .answer .number ≡ 0 → UpheldFrom inst t (r .table) (take (d .answer .steps) (r .out)))
+drive-told inst t calls out target r xs ys (e, u) h = (
+  ap (λ k. k .answer .number) e,
+  ap (λ k. k .table) e,
+  ap (λ k. k .out) e,
+  ap (λ k. k .target) e,
+  h ∙ ap (λ k. noted xs (k .answer .steps ∷ [])) e,
+  λ good. let s = ap (λ k. k .answer .steps) e in rw s at (u good),
+)

@@ -1,8 +1,8 @@
 // The public calls for C and Rust: numbers and slices alone cross the boundary. Each returns its number, 0 for success, and writes its other fields to an answer slice.
 ghost use mathlib.Core.Path.{_≡_};
-ghost use mathlib.Core.List.{List, [], _∷_};
+ghost use mathlib.Core.List.{[], _∷_};
 ghost use lib.ListN.{take};
-ghost use Rattle.input.specs.Calls.{costCall};
+ghost use Rattle.cost.specs.Calls.{costCall};
 ghost use Rattle.sheet.specs.Calls.{makeCall};
 ghost use Rattle.encoding.specs.Calls.{encodeCall};
 ghost use Rattle.resolution.specs.Calls.{stepCall, runCall};
@@ -10,7 +10,7 @@ ghost use Rattle.resolution.specs.Numbers.{stepNumber, stepFields, outcomeNumbe
 ghost use Rattle.assignment.specs.Calls.{planCall};
 ghost use Rattle.readout.specs.Calls.{readoutCall};
 ghost use Rattle.checker.specs.Calls.{checkCall};
-ghost use Rattle.calls.specs.Demand.{Upheld};
+ghost use Rattle.calls.specs.Demand.{UpheldFrom};
 ghost use Rattle.calls.specs.Driver.{driveAll};
 ghost use Rattle.library.specs.Noted.{noted};
 use resolution::Outcome;
@@ -48,7 +48,7 @@ fn note_three(answer: &mut [u64], a: u64, b: u64, c: u64)
 // Make an instance from a sheet. Answer: the words written.
 #[no_mangle]
 pub extern "C" fn gotalhim_make(sheet: &[u32], target: &mut [u32], answer: &mut [u64]) -> u32
-    ensures { λ r. ⌜ (r ≡ makeCall (now (sheet .entry)) (now (target .entry)) .answer .number) × (now (target .exit) ≡ makeCall (now (sheet .entry)) (now (target .entry)) .target) × (now (answer .exit) ≡ noted (now (answer .entry)) (makeCall (now (sheet .entry)) (now (target .entry)) .answer .value ∷ [])) ⌝ }
+    ensures { λ r. ⌜ (let c = makeCall (now (sheet .entry)) (now (target .entry)) in (r ≡ c .answer .number) × (now (target .exit) ≡ c .target) × (now (answer .exit) ≡ noted (now (answer .entry)) (c .answer .value ∷ []))) ⌝ }
 {
     let made = sheet::make(sheet, target);
     note(answer, made.value);
@@ -141,7 +141,7 @@ pub extern "C" fn gotalhim_check(
     table: &mut [u32],
     answer: &mut [u64],
 ) -> u32
-    ensures { λ r. ⌜ (r ≡ checkCall (now (instance .entry)) (now (derivation .entry)) (now (plan .entry)) claimed (now (table .entry)) .answer .number) × (now (table .exit) ≡ checkCall (now (instance .entry)) (now (derivation .entry)) (now (plan .entry)) claimed (now (table .entry)) .table) × (now (answer .exit) ≡ noted (now (answer .entry)) (checkCall (now (instance .entry)) (now (derivation .entry)) (now (plan .entry)) claimed (now (table .entry)) .answer .steps ∷ [])) ⌝ }
+    ensures { λ r. ⌜ (let c = checkCall (now (instance .entry)) (now (derivation .entry)) (now (plan .entry)) claimed (now (table .entry)) in (r ≡ c .answer .number) × (now (table .exit) ≡ c .table) × (now (answer .exit) ≡ noted (now (answer .entry)) (c .answer .steps ∷ []))) ⌝ }
 {
     let checked = checker::check(instance, derivation, plan, claimed, table);
     note(answer, checked.steps as u64);
@@ -170,7 +170,7 @@ pub extern "C" fn gotalhim_readout(
 pub extern "C" fn gotalhim_cost(instance: &[u32], plan: &[u8], answer: &mut [u64]) -> u32
     ensures { λ r. ⌜ (r ≡ costCall (now (instance .entry)) (now (plan .entry)) .number) × (now (answer .exit) ≡ noted (now (answer .entry)) (costCall (now (instance .entry)) (now (plan .entry)) .value ∷ [])) ⌝ }
 {
-    let cost = input::cost(instance, plan);
+    let cost = cost::cost(instance, plan);
     note(answer, cost.value);
     cost.number
 }
@@ -185,7 +185,7 @@ pub extern "C" fn gotalhim_drive(
     target: &mut [u8],
     answer: &mut [u64],
 ) -> u32
-    ensures { λ r. ⌜ (r ≡ driveAll (now (instance .entry)) (now (table .entry)) (now (calls .entry)) (now (derivation .entry)) (now (target .entry)) .answer .number) × (now (table .exit) ≡ driveAll (now (instance .entry)) (now (table .entry)) (now (calls .entry)) (now (derivation .entry)) (now (target .entry)) .table) × (now (derivation .exit) ≡ driveAll (now (instance .entry)) (now (table .entry)) (now (calls .entry)) (now (derivation .entry)) (now (target .entry)) .out) × (now (target .exit) ≡ driveAll (now (instance .entry)) (now (table .entry)) (now (calls .entry)) (now (derivation .entry)) (now (target .entry)) .target) × (now (answer .exit) ≡ noted (now (answer .entry)) (driveAll (now (instance .entry)) (now (table .entry)) (now (calls .entry)) (now (derivation .entry)) (now (target .entry)) .answer .steps ∷ [])) × (r ≡ 0 → Upheld (now (instance .entry)) (now (table .entry)) (now (table .exit)) (take (driveAll (now (instance .entry)) (now (table .entry)) (now (calls .entry)) (now (derivation .entry)) (now (target .entry)) .answer .steps) (now (derivation .exit)))) ⌝ }
+    ensures { λ r. ⌜ (let d = driveAll (now (instance .entry)) (now (table .entry)) (now (calls .entry)) (now (derivation .entry)) (now (target .entry)) in (r ≡ d .answer .number) × (now (table .exit) ≡ d .table) × (now (derivation .exit) ≡ d .out) × (now (target .exit) ≡ d .target) × (now (answer .exit) ≡ noted (now (answer .entry)) (d .answer .steps ∷ [])) × (r ≡ 0 → UpheldFrom (now (instance .entry)) (now (table .entry)) (now (table .exit)) (take (d .answer .steps) (now (derivation .exit))))) ⌝ }
 {
     let driven = calls::drive(instance, table, calls, derivation, target);
     note(answer, driven.steps as u64);

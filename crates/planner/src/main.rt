@@ -48,7 +48,7 @@ fn main() {
         return;
     }
     let got = input.length;
-    let text = planning::plan_text(&bytes[..got]);
+    let text = printing::plan_text(&bytes[..got]);
     let out = text.bytes;
     let length = text.length;
     if !io::write_all(1, &out[..length]) {

@@ -1,8 +1,6 @@
--- The program's laws.
+-- The laws of a sheet's value.
+mod Words
+mod Solving
 pub mod Best
 pub mod Meaning
-mod Faults
-mod Words
-mod Metres
-mod Lines
-mod Texts
+pub mod Numbers

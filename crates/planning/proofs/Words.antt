@@ -2,12 +2,11 @@
 use Prim.Native.Nat.{ℕ, suc, _+_, _*_, _≤_, _<_}
 use native.Mathlib.Numerals.{add-one}
 use native.Mathlib.Omega.{arith}
-use mathlib.Core.Path.{_≡_, refl, sym, _∙_}
+use mathlib.Core.Path.{_≡_, refl, sym, ap, _∙_}
 use mathlib.Core.List.{List, [], _∷_, _++_, append-nil}
 use lib.ListN.{length, set, take, drop, length-drop}
-use lib.Seq.{drop-cons, take-suc-set, append-snoc}
-use Rattle.planning.specs.Printed.{wordsIn}
-use Rattle.planning.specs.Planned.{wordAt}
+use lib.Seq.{drop-cons, drop-drop, drop-set-lt, take-suc-set, append-snoc}
+use Rattle.planning.specs.Words.{wordsIn, wordAt}
 
 -- fewer than four bytes are no word
 no-word : (bytes : List ℕ) → length bytes < 4 → wordsIn bytes ≡ []
@@ -50,3 +49,8 @@ module _ (bytes words : List ℕ) (i : ℕ) (inv : take i words ++ wordsIn (drop
   words-stored h =
       let none : wordsIn (drop (4 * i) bytes) ≡ [] = no-word (drop (4 * i) bytes) (omega (arith, length-drop (4 * i) bytes)) in
       sym (append-nil (take i words)) ∙ rw none at inv
+
+-- a stored word leaves those behind it
+pub rest-kept : (words words₀ : List ℕ) (i w : ℕ) → drop i words ≡ drop i words₀ → drop (i + 1) (set words i w) ≡ drop (i + 1) words₀
+rest-kept words words₀ i w e =
+    drop-set-lt (i + 1) words i w (omega arith) ∙ sym (drop-drop 1 i words) ∙ ap (drop 1) e ∙ drop-drop 1 i words₀

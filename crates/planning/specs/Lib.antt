@@ -1,4 +1,4 @@
--- The program's work: a sheet as bytes, and the text of its plan.
-pub mod Printed
+-- A sheet planned: the value that it comes to.
+pub mod Words
+pub mod Solving
 pub mod Theorems
-pub mod Planned

@@ -1,71 +1,103 @@
--- What a printed text means: a refusal with its reason; the best assignment of the sheet's instance, with its cost; or a bound on every cost.
+-- What a sheet's value means: a refusal with its reason; the best assignment of the sheet's instance, with its cost; or a bound on every cost.
 use Prim.Native.Nat.{ℕ, _*_, _%_, _≤_, _<_}
 use mathlib.Core.Path.{_≡_}
 use mathlib.Core.List.{List}
 use lib.ListN.{length, take}
 use Rattle.wcsp.specs.Clause.{InRange}
 use Rattle.wcsp.specs.Row.{Row, emptyWeight}
-use Rattle.wcsp.specs.Entry.{cost}
-use Rattle.input.specs.Instance.{maxVariables, sizesOf, entriesOf}
-use Rattle.input.specs.Sheet.{sheetFault, sheetSizes}
+use Rattle.wcsp.specs.Entry.{Entry, cost}
+use Rattle.fields.specs.Limits.{maxVariables}
+use Rattle.sheet.specs.Sheet.{sheetFault, sheetSizes}
+use Rattle.input.specs.Instance.{sizesOf, entriesOf}
 use Rattle.table.specs.Layout.{capacity}
 use Rattle.sheet.specs.Made.{madeWords}
 use Rattle.encoding.specs.Calls.{encodedRows, encodeCall}
 use Rattle.resolution.specs.declared.Outcome.{Outcome}
 use Rattle.resolution.specs.Calls.{runCall}
 use Rattle.assignment.specs.Calls.{planCall}
-use Rattle.text.specs.Text.{refusedLine, pausedLine, fullLine}
 use Rattle.checker.specs.Theorems.{Best}
 use Rattle.calls.specs.Calls.{Derives}
 use Rattle.calls.specs.Demand.{domainsOf, RunEnds}
-use Rattle.planning.specs.Printed.{bufferWords, tableBuffer, stepLimit, wordsIn, planText, printed}
+use Rattle.planning.specs.declared.Ending.{Ending}
+use Rattle.planning.specs.declared.Solved.{Solved}
+use Rattle.planning.specs.Words.{wordsIn}
+use Rattle.planning.specs.Solving.{bufferWords, tableBuffer, stepLimit, refusedSolved, stoppedSolved, plannedSolved, endingNumber, solveCall, solvedOf}
 
--- for every accepted sheet, every table that takes its encoding, every limit and slice: once the run is done, the bytes that the plan call
--- writes to a target that holds them are an assignment of least cost, and that cost is the bound that the run returned
+-- for every accepted sheet, every table that takes its encoding, every limit and slice: once the run is done, the plan call is good, the bytes
+-- that it writes to a target of twelve are an assignment of least cost, and that cost is the bound that the run returned
 abbrev pub DoneIsBest : Type 0
 DoneIsBest = (sheet t slice target : List ℕ) (limit : ℕ) → sheetFault sheet ≡ 0 → encodeCall (madeWords sheet) t .answer .number ≡ 0
     → let r = runCall (encodeCall (madeWords sheet) t .table) limit slice in
     r .answer .outcome ≡ Outcome.Done
     → length target ≡ 12
-    → Best (madeWords sheet) (take (length (sheetSizes sheet)) (planCall (r .table) target .target)) (r .answer .bound)
-
--- why bytes are refused, and by which number: more than 64,000 of them; no whole words; a fault of the sheet; an instance, or rows of its
--- encoding, that the program's buffers do not hold
-pub data Refusal (bytes : List ℕ) : ℕ → Type 0 where
-  tooLong : 4 * bufferWords < length bytes → Refusal bytes 10
-  noWords : (length bytes % 4 ≡ 0 → ⊥) → Refusal bytes 1
-  faulty : (k : ℕ) → sheetFault (wordsIn bytes) ≡ k → 1 ≤ k → k ≤ 5 → Refusal bytes k
-  longInstance : sheetFault (wordsIn bytes) ≡ 0 → bufferWords < length (madeWords (wordsIn bytes)) → Refusal bytes 10
-  manyRows : sheetFault (wordsIn bytes) ≡ 0
-      → capacity tableBuffer (length (sheetSizes (wordsIn bytes))) < length (encodedRows (madeWords (wordsIn bytes))) → Refusal bytes 12
+    → (planCall (r .table) target .number ≡ 0)
+    × Best (sizesOf (madeWords sheet)) (entriesOf (madeWords sheet)) (take (length (sheetSizes sheet)) (planCall (r .table) target .target))
+    (r .answer .bound)
 
 -- a bound that no assignment undercuts
-abbrev pub NoneBelow : List ℕ → ℕ → Type 0
-NoneBelow inst b = (p : List ℕ) → InRange (sizesOf inst) p → b ≤ cost (entriesOf inst) p
+abbrev pub NoneBelow : List ℕ → List Entry → ℕ → Type 0
+NoneBelow ds es b = (p : List ℕ) → InRange ds p → b ≤ cost es p
 
 -- so many steps from the encoding of an instance, each on the next pair, led to rows whose empty row has this weight, and ended so in a table
 -- of the program's length
-pub record Ran (inst : List ℕ) (steps bound : ℕ) (o : Outcome) : Type 0 where
+pub record RunFrom (inst : List ℕ) (steps bound : ℕ) (o : Outcome) : Type 0 where
   pub words : List ℕ
   pub rows : List Row
   pub derived : Derives (domainsOf inst) (encodedRows inst) words rows
   pub made : length words ≡ steps
   pub weight : emptyWeight maxVariables rows ≡ bound
-  pub table : List ℕ
-  pub long : length table ≡ tableBuffer
-  pub ends : RunEnds inst table stepLimit steps rows o
+  pub ends : RunEnds (domainsOf inst) (capacity tableBuffer (length (sizesOf inst))) stepLimit steps rows o
 
--- what a text says of the sheet in the bytes
-pub data Means (bytes text : List ℕ) : Type 0 where
-  refused : (k : ℕ) → text ≡ refusedLine k → Refusal bytes k → Means bytes text
-  planned : (plan : List ℕ) (least steps : ℕ) → text ≡ planText (wordsIn bytes) plan least steps → sheetFault (wordsIn bytes) ≡ 0
-      → Best (madeWords (wordsIn bytes)) (take (length (sheetSizes (wordsIn bytes))) plan) least
-      → Ran (madeWords (wordsIn bytes)) steps least Outcome.Done → Means bytes text
-  paused : (steps b : ℕ) → text ≡ pausedLine steps b → sheetFault (wordsIn bytes) ≡ 0 → NoneBelow (madeWords (wordsIn bytes)) b
-      → Ran (madeWords (wordsIn bytes)) steps b Outcome.Paused → Means bytes text
-  full : (steps b : ℕ) → text ≡ fullLine steps b → sheetFault (wordsIn bytes) ≡ 0 → NoneBelow (madeWords (wordsIn bytes)) b
-      → Ran (madeWords (wordsIn bytes)) steps b (Outcome.Refused 12) → Means bytes text
+-- an accepted sheet whose instance the program's buffer holds, and its table the rows of the encoding
+pub record Held (sheet : List ℕ) : Type 0 where
+  pub fine : sheetFault sheet ≡ 0
+  pub short : length (madeWords sheet) ≤ bufferWords
+  pub few : length (encodedRows (madeWords sheet)) ≤ capacity tableBuffer (length (sheetSizes sheet))
 
--- for all bytes, the printed text means one of these
-abbrev pub PrintedMeans : Type 0
-PrintedMeans = (bytes : List ℕ) → Means bytes (printed bytes)
+-- what a value says of a sheet's words
+pub data SheetMeans (sheet : List ℕ) : Solved → Type 0 where
+  -- the sheet has a fault
+  faulty : (k : ℕ) → sheetFault sheet ≡ k → 1 ≤ k → k ≤ 5 → SheetMeans sheet (refusedSolved k)
+  -- else its instance is longer than the buffer
+  longInstance : sheetFault sheet ≡ 0 → bufferWords < length (madeWords sheet) → SheetMeans sheet (refusedSolved 10)
+  -- else its encoding has more rows than the table takes
+  manyRows : sheetFault sheet ≡ 0 → length (madeWords sheet) ≤ bufferWords
+      → capacity tableBuffer (length (sheetSizes sheet)) < length (encodedRows (madeWords sheet)) → SheetMeans sheet (refusedSolved 12)
+  -- no pair is left: the best assignment and its cost
+  planned : (plan : List ℕ) (steps least : ℕ) → Held sheet
+      → Best (sizesOf (madeWords sheet)) (entriesOf (madeWords sheet)) (take (length (sheetSizes sheet)) plan) least
+      → RunFrom (madeWords sheet) steps least Outcome.Done → SheetMeans sheet (plannedSolved plan steps least)
+  -- the limit is reached: a bound on every cost
+  paused : (steps b : ℕ) → Held sheet → NoneBelow (sizesOf (madeWords sheet)) (entriesOf (madeWords sheet)) b
+      → RunFrom (madeWords sheet) steps b Outcome.Paused → SheetMeans sheet (stoppedSolved Ending.Paused steps b)
+  -- the next step has more rows than the table takes: a bound on every cost
+  full : (steps b : ℕ) → Held sheet → NoneBelow (sizesOf (madeWords sheet)) (entriesOf (madeWords sheet)) b
+      → RunFrom (madeWords sheet) steps b (Outcome.Refused 12) → SheetMeans sheet (stoppedSolved Ending.Full steps b)
+
+-- what a value says of bytes
+pub data Means (bytes : List ℕ) : Solved → Type 0 where
+  -- more than 64,000
+  tooLong : 4 * bufferWords < length bytes → Means bytes (refusedSolved 10)
+  -- else no whole words
+  noWords : length bytes ≤ 4 * bufferWords → (length bytes % 4 ≡ 0 → ⊥) → Means bytes (refusedSolved 1)
+  -- else what it says of their words
+  ofWords : (s : Solved) → length bytes ≤ 4 * bufferWords → length bytes % 4 ≡ 0 → SheetMeans (wordsIn bytes) s → Means bytes s
+
+-- every sheet's value in buffers of the program's lengths, whatever lies in them
+abbrev pub SolveMeans : Type 0
+SolveMeans = (sheet instance table steps : List ℕ) → length instance ≡ bufferWords → length table ≡ tableBuffer → length steps ≡ bufferWords
+    → SheetMeans sheet (solveCall sheet stepLimit instance table steps .answer)
+
+-- all bytes' value
+abbrev pub SolvedMeans : Type 0
+SolvedMeans = (bytes : List ℕ) → Means bytes (solvedOf bytes)
+
+-- the numbers that a sheet can meet
+pub data SheetNumber : ℕ → Type 0 where
+  success : SheetNumber 0
+  fault : (k : ℕ) → 1 ≤ k → k ≤ 5 → SheetNumber k
+  tooShort : SheetNumber 10
+  tooMany : SheetNumber 12
+
+abbrev pub SolvedNumbers : Type 0
+SolvedNumbers = (bytes : List ℕ) → SheetNumber (endingNumber (solvedOf bytes .ending))

@@ -1,3 +1,2 @@
 -- The readout: metres from the vehicle to the next sample.
 pub mod Calls
-pub mod Positions

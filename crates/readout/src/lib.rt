@@ -2,33 +2,15 @@
 ghost use mathlib.Core.Path.{_≡_};
 ghost use Prim.Native.Nat.{_<_, _≤_};
 ghost use lib.ListN.{length, getD};
-ghost use Rattle.input.specs.Sheet.{isEasting, isNorthing, sheetFault, sheetSizes};
+ghost use Rattle.sheet.specs.Sheet.{sheetFault, sheetSizes};
 ghost use Rattle.sheet.specs.Made.{travel};
 ghost use Rattle.sheet.specs.Calls.{positionIn};
-ghost use Rattle.readout.specs.Positions.{placeBy};
 ghost use Rattle.readout.specs.Calls.{readoutCall};
-use input::Answer;
+use fields::Answer;
+use sheet::points::EASTING;
+use sheet::points::NORTHING;
+use sheet::points::coordinate;
 use words::Coordinate;
-use words::Word;
-
-// The coordinate of an easting word, of a northing word; Outside for any other word.
-fn easting_of(w: u32) -> Coordinate
-    ensures { λ r. ⌜ r ≡ placeBy isEasting w ⌝ }
-{
-    let Word::Easting(p) = words::read(w) else {
-        return Coordinate::Outside;
-    };
-    words::place(p)
-}
-
-fn northing_of(w: u32) -> Coordinate
-    ensures { λ r. ⌜ r ≡ placeBy isNorthing w ⌝ }
-{
-    let Word::Northing(p) = words::read(w) else {
-        return Coordinate::Outside;
-    };
-    words::place(p)
-}
 
 // Whole metres from a position to that of a value of an accepted sheet.
 fn metres_to(sheet: &[u32], variable: u32, value: u8, east: u32, north: u32) -> u32
@@ -45,35 +27,23 @@ fn metres_to(sheet: &[u32], variable: u32, value: u8, east: u32, north: u32) -> 
 pub fn readout(sheet: &[u32], plan: &[u8], variable: u32, easting: u32, northing: u32) -> Answer
     ensures { λ r. ⌜ r ≡ readoutCall (now (sheet .entry)) (now (plan .entry)) variable easting northing ⌝ }
 {
-    let read = input::read_sheet(sheet);
+    let read = sheet::read_sheet(sheet);
     if read.number != 0 {
-        return refused(read.number);
+        return fields::refusal(read.number);
     }
     if read.variables <= variable {
-        return refused(8);
+        return fields::refusal(8);
     }
-    let Coordinate::At(east) = easting_of(easting) else {
-        return refused(8);
+    let Coordinate::At(east) = coordinate(EASTING, easting) else {
+        return fields::refusal(8);
     };
-    let Coordinate::At(north) = northing_of(northing) else {
-        return refused(8);
+    let Coordinate::At(north) = coordinate(NORTHING, northing) else {
+        return fields::refusal(8);
     };
     let sizes = read.sizes;
-    if !input::entries::is_assignment(&sizes, read.variables as usize, plan) {
-        return refused(8);
+    if !fields::is_assignment(&sizes, read.variables as usize, plan) {
+        return fields::refusal(8);
     }
     let metres = metres_to(sheet, variable, plan[variable as usize], east, north);
-    Answer {
-        number: 0,
-        value: metres as u64,
-    }
-}
-
-fn refused(k: u32) -> Answer
-    ensures { λ r. ⌜ r ≡ record { number = k; value = 0 } ⌝ }
-{
-    Answer {
-        number: k,
-        value: 0,
-    }
+    fields::success(metres as u64)
 }

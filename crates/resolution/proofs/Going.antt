@@ -2,18 +2,16 @@
 -- front of the slice, and where the next hunt goes on.
 use Prim.Native.Nat.{ℕ, zero, suc, _+_, _-_, _*_, _<_, _≤_, min}
 use native.Mathlib.Omega.{arith}
-use native.Mathlib.Numerals.{add-one}
 use mathlib.Core.Path.{_≡_, refl, sym, ap, ap₂, _∙_}
 use mathlib.Core.Bool.{Bool, true, false, cond}
 use mathlib.Core.List.{List, [], _∷_, _++_, append-assoc}
-use mathlib.Core.Option.{Option, none, some}
+use mathlib.Core.Option.{none, some}
 use lib.ListN.{length, getD, drop, set, length-set, length-append}
 use lib.Seq.{drop-cons, set-at}
 use lib.Dec.{ltb}
 use borrow.Author.Tests.{ltb-true, lt-ltb, le-ltb}
 use Rattle.wcsp.specs.Row.{Row, emptyWeight}
 use Rattle.wcsp.specs.Resolve.{Pair, noRow, pairIn, nextPair, resolve}
-use Rattle.wcsp.specs.Theorems.{Candidate}
 use Rattle.wcsp.proofs.NextPair.{nextIsLeast}
 use Rattle.wcsp.proofs.PairSearch.{PairFrom, pairFrom-some}
 use Rattle.wcsp.proofs.PairFound.{pairIn-is, pairIn-is-none}
@@ -21,24 +19,27 @@ use Rattle.wcsp.proofs.Settled.{settled-kept}
 use Rattle.wcsp.proofs.Cleared.{first-in, second-in, passed-before, passed-here}
 use Rattle.clause.specs.declared.Clause.{Clause}
 use Rattle.clause.specs.Packed.{Packed}
+use Rattle.rows.specs.Raw.{rowWidth}
 use Rattle.table.specs.declared.Shape.{Shape}
 use Rattle.table.specs.Layout.{tableWords}
 use Rattle.table.specs.Meaning.{variablesOf, rowCount, tableSizes, tableRows, domains}
 use Rattle.table.specs.Valid.{validTable}
 use Rattle.table.specs.Check.{fullClause, shapeOf, capacityOf}
 use Rattle.table.proofs.Canonical.{validIsCanonical}
+use Rattle.table.proofs.Reading.{ready, find-room}
 use Rattle.hunt.specs.declared.Hunted.{Hunted}
 use Rattle.hunt.specs.declared.Hunted.the-variants.{Next, Nothing}
 use Rattle.hunt.specs.Hunt.{Cleared, Settled}
-use Rattle.stepping.specs.Step.{Stepping, finished, refusing, stepping, allowed, pairWord}
+use Rattle.stepping.specs.Step.{refusing, stepping, allowed, pairWord}
 use Rattle.stepping.specs.Advance.{withRows}
+use Rattle.stepping.proofs.Answers.{Advances}
+use Rattle.stepping.proofs.Following.{following}
 use Rattle.resolution.specs.declared.Outcome.{Outcome}
 use Rattle.resolution.specs.declared.RunAnswer.{RunAnswer}
 use Rattle.resolution.specs.Step.{oneStep}
 use Rattle.resolution.specs.Run.{Ending, done, paused, stopped, Ran, after, atLimit, runRows, resumed}
 use Rattle.resolution.specs.Calls.{outcomeOf, runReturns, runCall}
-use Rattle.resolution.proofs.Bounding.{ready, find-room}
-use Rattle.resolution.proofs.Single.{fulls-packed, Hunts, hunt-none, hunt-some, permitted, Advances, Following, following, no-step, next-step, settled-start, cleared-start}
+use Rattle.resolution.proofs.Single.{fulls-packed, Hunts, hunt-none, hunt-some, permitted, no-step, next-step, settled-start, cleared-start}
 
 -- ---- a run's next turn
 
@@ -212,7 +213,7 @@ module _ {t₀ : List ℕ} {most : ℕ} {slice₀ t slice : List ℕ} {count buc
     fulls-here : fulls ≡ fullClause (domains t)
     fulls-here = f ∙ ap fullClause (sym (g .domained))
 
-    pub hunt-asks : (base + 5 * count ≤ length t) × Packed fulls × (bucket ≤ 12)
+    pub hunt-asks : (base + rowWidth * count ≤ length t) × Packed fulls × (bucket ≤ 12)
     hunt-asks = (
       find-room t (g .valid) base count base-here (g .counted),
       fulls-packed t (g .valid) base count base-here (g .counted) fulls fulls-here,
@@ -272,7 +273,7 @@ module _ {t₀ : List ℕ} {most : ℕ} {slice₀ t slice : List ℕ} {count buc
           → (from′ : ℕ) → from′ ≡ resumed (tableRows t) (pr .first) (pr .second)
           → Going t₀ most slice₀ t′ (set slice made w) now (pr .variable) (pr .first) from′ (made + 1)
       going-on now old t′ a w p from′ z =
-          let f = following t (g .valid) pr next now old t′ a in
+          let f = following t (g .valid) pr (permitted t (g .valid) pr next) now old t′ a in
           let one : made + 1 ≡ suc made = omega arith in
           let fits : made < length slice₀ = omega (arith, g .room, h) in
           let d = f .domained in

@@ -7,17 +7,19 @@ use mathlib.Core.Option.{Option, none, some}
 use lib.ListN.{length}
 use Rattle.wcsp.specs.Row.{Row}
 use Rattle.wcsp.specs.Resolve.{Pair, nextPair, resolve}
+use Rattle.stepping.proofs.Verdicts.{Verdict, refused, made, verdict}
 use Rattle.table.specs.Meaning.{tableRows, domains}
 use Rattle.table.specs.Valid.{validTable}
 use Rattle.table.specs.Check.{capacityOf}
 use Rattle.table.proofs.Canonical.{validIsCanonical}
 use Rattle.stepping.specs.Step.{Stepping, finished, refusing, stepping, allowed, pairWord}
 use Rattle.stepping.specs.Advance.{withRows}
+use Rattle.stepping.proofs.Following.{Following, following}
 use Rattle.resolution.specs.Step.{oneStep}
 use Rattle.resolution.specs.Run.{done, stopped, after, atLimit, runRows}
 use Rattle.resolution.specs.Calls.{stepReturns, stepCall, runCall}
 use Rattle.resolution.specs.Theorems.{StepsKeepValid, RunsKeepValid}
-use Rattle.resolution.proofs.Single.{Verdict, refused, made, verdict, Following, following, no-step, next-step}
+use Rattle.resolution.proofs.Single.{permitted, no-step, next-step}
 
 -- what one step on a valid table's rows comes to
 data Comes (t : List ℕ) : Stepping → Type 0 where
@@ -32,10 +34,10 @@ module _ (t : List ℕ) (v : validTable t ≡ true) where
       judged : (pr : Pair) → nextPair (domains t) (tableRows t) ≡ some pr → (s : Stepping)
           → allowed (capacityOf t) pr (resolve (domains t) pr (tableRows t)) ≡ s
           → Verdict (capacityOf t) pr (resolve (domains t) pr (tableRows t)) s → Comes t s
-      judged pr next (refusing k) e (refused k′) = refusal k
+      judged pr next (refusing k) e (refused k′ h) = refusal k
       judged pr next (stepping x y) e (made h l) =
           onward pr (resolve (domains t) pr (tableRows t))
-          (following t v pr next _ _ _ (record { is = e; light = h; fits = l; counted = refl; stayed = refl; table = refl }))
+          (following t v pr (permitted t v pr next) _ _ _ (record { is = e; light = h; fits = l; counted = refl; stayed = refl; table = refl }))
 
       go : (o : Option Pair) → nextPair (domains t) (tableRows t) ≡ o → Comes t (oneStep (domains t) (capacityOf t) (tableRows t))
       go none e = rw (no-step (domains t) (capacityOf t) (tableRows t) e) noneLeft

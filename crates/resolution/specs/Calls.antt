@@ -1,10 +1,10 @@
 -- The step call and the run: answers and lent slices, for good and refused calls alike.
-use Prim.Native.Nat.{ℕ, zero, suc, min}
+use Prim.Native.Nat.{ℕ, min}
 use mathlib.Core.Bool.{cond}
-use mathlib.Core.List.{List, [], _∷_, _++_}
+use mathlib.Core.List.{List, [], _++_}
 use lib.ListN.{length, drop}
 use Rattle.wcsp.specs.Row.{emptyWeight}
-use Rattle.input.specs.Instance.{maxVariables}
+use Rattle.fields.specs.Limits.{maxVariables}
 use Rattle.table.specs.Meaning.{tableRows, domains}
 use Rattle.table.specs.Valid.{validTable}
 use Rattle.table.specs.Check.{capacityOf}

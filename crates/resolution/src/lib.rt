@@ -2,19 +2,17 @@
 ghost use mathlib.Core.Path.{_≡_};
 ghost use mathlib.Core.Bool.{true};
 ghost use mathlib.Core.List.{[]};
-ghost use Prim.Native.Nat.{ℕ, _+_, _<_, _≤_, min};
+ghost use Prim.Native.Nat.{ℕ, _+_, _<_, _≤_};
 ghost use lib.ListN.{length};
 ghost use Rattle.wcsp.specs.Row.{emptyWeight};
-ghost use Rattle.input.specs.Instance.{maxVariables};
+ghost use Rattle.fields.specs.Limits.{maxVariables};
 ghost use Rattle.table.specs.Meaning.{variablesOf, rowCount, tableRows, domains};
 ghost use Rattle.table.specs.Valid.{validTable};
 ghost use Rattle.table.specs.Check.{shapeOf, capacityOf};
 ghost use Rattle.stepping.specs.declared.Advanced.{Advanced};
 ghost use Rattle.resolution.specs.Run.{resumed, runRows};
 ghost use Rattle.resolution.specs.Calls.{stepCall, runReturns, runCall};
-use clause::Clause;
 use hunt::Hunted;
-use rows::Found;
 use stepping::Advanced;
 use table::Checked;
 use table::Shape;
@@ -38,18 +36,6 @@ pub struct RunAnswer {
     pub outcome: Outcome,
     pub steps: usize,
     pub bound: u64,
-}
-
-// The empty row's weight in a valid table, 0 if there is none.
-pub fn empty_weight(t: &[u32], base: usize, count: usize) -> u64
-    requires { ⌜ (validTable (now t) ≡ true) × (base ≡ variablesOf (now t) + 2) × (count ≡ rowCount (now t)) ⌝ }
-    ensures { λ r. ⌜ r ≡ emptyWeight maxVariables (tableRows (now (t .entry))) ⌝ }
-{
-    let found = rows::find(t, base, count, Clause::empty());
-    let Found::At(k) = found else {
-        return 0;
-    };
-    rows::weight_of(t, base, k) as u64
 }
 
 // One step call: 9; done; 11; 12; else one step.
@@ -83,12 +69,6 @@ fn refusal_in(advanced: Advanced) -> u32
     }
 }
 
-pub fn lesser(a: usize, b: usize) -> usize
-    ensures { λ r. ⌜ r ≡ min a b ⌝ }
-{
-    if a < b { a } else { b }
-}
-
 // The answer of a run that ends so in this table.
 fn ended(t: &[u32], base: usize, count: usize, outcome: Outcome, steps: usize) -> RunAnswer
     requires { ⌜ (validTable (now t) ≡ true) × (base ≡ variablesOf (now t) + 2) × (count ≡ rowCount (now t)) ⌝ }
@@ -97,7 +77,7 @@ fn ended(t: &[u32], base: usize, count: usize, outcome: Outcome, steps: usize) -
     RunAnswer {
         outcome,
         steps,
-        bound: empty_weight(t, base, count),
+        bound: table::empty_weight(t, base, count),
     }
 }
 
@@ -163,5 +143,6 @@ pub fn run(t: &mut [u32], limit: usize, slice: &mut [u32]) -> RunAnswer
             bound: 0,
         };
     };
-    run_valid(t, shape, lesser(limit, slice.len()), slice)
+    let most = fields::lesser(limit as u64, slice.len() as u64) as usize;
+    run_valid(t, shape, most, slice)
 }

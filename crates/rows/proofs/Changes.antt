@@ -1,49 +1,31 @@
--- Lists of raw rows with one row reweighed or taken out, and the search for sign words: lengths, elements, and the search's answer both ways.
-use Prim.Native.Nat.{ℕ, zero, suc, _+_, _-_, _*_, _≤_, _<_}
+-- Lists of raw rows with one row reweighed or taken out: lengths and elements.
+use Prim.Native.Nat.{ℕ, zero, suc, _-_, _≤_, _<_}
 use native.Mathlib.Nat.{le-of-suc-le-suc}
 use native.Mathlib.Omega.{arith}
-use mathlib.Core.Path.{_≡_, refl, sym, ap, ap₂, _∙_}
-use mathlib.Core.Bool.{Bool, true, false, cond, false≢true}
+use mathlib.Core.Path.{_≡_, refl, ap}
 use mathlib.Core.List.{List, [], _∷_, _++_}
-use mathlib.Core.Logic.{_≢_}
-use lib.ListN.{length, getD, take, drop, set, length-append}
-use lib.Seq.{set-append-left, drop-set-add, take-set-le}
-use Rattle.rows.specs.Raw.{Raw, noRaw, flat, sameSigns, findFrom, reweighed, without}
-use Rattle.rows.specs.declared.Found.{Found}
-use Rattle.rows.specs.declared.Found.the-variants.{At, Missing}
-use Rattle.rows.proofs.Flat.{length-flat}
+use lib.ListN.{length, getD, take, drop, set, length-set}
+use lib.Seq.{set-out}
+use Rattle.rows.specs.Raw.{Raw, noRaw, weighing, reweighed, without}
 
 -- ---- a row reweighed
 
 pub length-reweighed : (rs : List Raw) (k w : ℕ) → length (reweighed rs k w) ≡ length rs
 unfolding reweighed
-length-reweighed [] k w = refl
-length-reweighed (r ∷ rs) zero w = refl
-length-reweighed (r ∷ rs) (suc k) w = ap suc (length-reweighed rs k w)
+length-reweighed rs k w = length-set rs k _
 
-pub reweighed-same : (rs : List Raw) (k w : ℕ) → k < length rs
-    → getD (reweighed rs k w) k noRaw ≡ record { a = getD rs k noRaw .a; b = getD rs k noRaw .b; c = getD rs k noRaw .c; d = getD rs k noRaw .d; w = w }
+-- past the last row there is nothing to reweigh
+pub reweighed-past : (rs : List Raw) (k w : ℕ) → length rs ≤ k → reweighed rs k w ≡ rs
 unfolding reweighed
-reweighed-same [] k w h = absurd (omega arith)
-reweighed-same (r ∷ rs) zero w h = refl
-reweighed-same (r ∷ rs) (suc k) w h = reweighed-same rs k w (le-of-suc-le-suc h)
+reweighed-past rs k w h = set-out rs k _ h
 
-pub reweighed-other : (rs : List Raw) (k w j : ℕ) → j ≢ k → getD (reweighed rs k w) j noRaw ≡ getD rs j noRaw
+pub reweighed-here : (r : Raw) (rs : List Raw) (w : ℕ) → reweighed (r ∷ rs) 0 w ≡ weighing r w ∷ rs
 unfolding reweighed
-reweighed-other [] k w j h = refl
-reweighed-other (r ∷ rs) zero w zero h = absurd (h refl)
-reweighed-other (r ∷ rs) zero w (suc j) h = refl
-reweighed-other (r ∷ rs) (suc k) w zero h = refl
-reweighed-other (r ∷ rs) (suc k) w (suc j) h = reweighed-other rs k w j (λ e. h (ap suc e))
+reweighed-here r rs w = refl
 
--- the words of a reweighed row
-pub flat-reweighed : (rs : List Raw) (k w : ℕ) → k < length rs → flat (reweighed rs k w) ≡ set (flat rs) (5 * k + 4) w
-unfolding flat reweighed
-flat-reweighed [] k w h = absurd (omega arith)
-flat-reweighed (r ∷ rs) zero w h = refl
-flat-reweighed (r ∷ rs) (suc k) w h =
-    let more : 5 * suc k + 4 ≡ suc (suc (suc (suc (suc (5 * k + 4))))) = omega arith in
-    rw more (ap (λ ws. r .a ∷ r .b ∷ r .c ∷ r .d ∷ r .w ∷ ws) (flat-reweighed rs k w (le-of-suc-le-suc h)))
+pub reweighed-behind : (r : Raw) (rs : List Raw) (k w : ℕ) → reweighed (r ∷ rs) (suc k) w ≡ r ∷ reweighed rs k w
+unfolding reweighed
+reweighed-behind r rs k w = refl
 
 -- ---- a row taken out
 

@@ -1,19 +1,20 @@
 -- The search for a raw row with given sign words: its answer characterised both ways, and the steps of a loop that goes through the words.
-use Prim.Native.Nat.{ℕ, zero, suc, _+_, _-_, _*_, _≤_, _<_, suc-le-suc}
-use native.Mathlib.Nat.{le-of-suc-le-suc, add-zero, sub-zero}
+use Prim.Native.Nat.{ℕ, zero, suc, _+_, _-_, _≤_, _<_, suc-le-suc}
+use native.Mathlib.Nat.{le-of-suc-le-suc, sub-zero}
 use native.Mathlib.Numerals.{add-one}
 use native.Mathlib.Omega.{arith}
-use mathlib.Core.Path.{_≡_, refl, sym, ap, ap₂, _∙_}
-use mathlib.Core.Bool.{Bool, true, false, _&&_, cond, false≢true}
+use mathlib.Core.Path.{_≡_, refl, sym, ap, _∙_}
+use mathlib.Core.Bool.{Bool, true, false, cond, false≢true}
 use mathlib.Core.List.{List, [], _∷_}
-use lib.ListN.{length, getD, drop}
+use lib.ListN.{length, getD}
 use lib.Seq.{drop-drop}
-use lib.Dec.{eqb, ltb}
+use lib.Dec.{ltb}
 use borrow.Author.Tests.{ltb-true, ltb-false}
-use Rattle.rows.specs.Raw.{Raw, noRaw, rawAt, rawsFrom, rawsIn, sameSigns, findFrom}
+use Rattle.rows.specs.Form.{rawsFromIn}
+use Rattle.rows.specs.Raw.{rowWidth, Raw, noRaw, rawAt, rawsIn, sameSigns, findFrom}
 use Rattle.rows.specs.declared.Found.{Found}
 use Rattle.rows.specs.declared.Found.the-variants.{At, Missing}
-use Rattle.rows.proofs.Flat.{rawAt-drop}
+use Rattle.rows.proofs.Flat.{rawAt-front}
 
 -- row k is the first of rs with the sign words of q
 pub record First (q : Raw) (rs : List Raw) (k : ℕ) : Type 0 where
@@ -99,19 +100,18 @@ pub find-start : (q : Raw) (t : List ℕ) (base count : ℕ) → findFrom q 0 (r
 find-start q t base count = rw sub-zero
 
 module _ (q : Raw) (t : List ℕ) (o : Found) (count k at : ℕ) (inv : o ≡ findFrom q k (rawsIn t at (count - k))) where
-  one : k < count → o ≡ cond (sameSigns (rawAt t at) q) (At k) (findFrom q (k + 1) (rawsIn t (at + 5) (count - (k + 1))))
-  unfolding findFrom rawsFrom
+  one : k < count → o ≡ cond (sameSigns (rawAt t at) q) (At k) (findFrom q (k + 1) (rawsIn t (at + rowWidth) (count - (k + 1))))
+  unfolding findFrom rawsFromIn
   one h =
       let more : count - k ≡ suc (count - (k + 1)) = omega arith in
-      let first : rawAt (drop at t) 0 ≡ rawAt t at = rawAt-drop t at 0 ∙ ap (rawAt t) (add-zero at) in
-      inv ∙ rw (more, first, drop-drop 5 at t, add-one)
+      inv ∙ rw (more, rawAt-front t at, drop-drop rowWidth at t, add-one)
 
   pub find-here : k < count → sameSigns (rawAt t at) q ≡ true → At k ≡ o
   find-here h e = sym (one h ∙ rw e)
 
-  pub find-next : k < count → sameSigns (rawAt t at) q ≡ false → o ≡ findFrom q (k + 1) (rawsIn t (at + 5) (count - (k + 1)))
+  pub find-next : k < count → sameSigns (rawAt t at) q ≡ false → o ≡ findFrom q (k + 1) (rawsIn t (at + rowWidth) (count - (k + 1)))
   find-next h e = one h ∙ rw e
 
   pub find-end : count ≤ k → Missing ≡ o
-  unfolding findFrom rawsFrom
+  unfolding findFrom rawsFromIn
   find-end h = let none-left : count - k ≡ 0 = omega arith in sym (inv ∙ rw none-left)

@@ -1,83 +1,88 @@
--- Single words stored: five in a row are one written part, and one stored over a weight word reweighs that row.
-use Prim.Native.Nat.{ℕ, zero, suc, _+_, _-_, _*_, _≤_, _<_}
+-- Words stored one by one: a row's words copied or cleared are one written part, and so are the sign words and the weight of a row.
+use Prim.Native.Nat.{ℕ, _+_, _*_, _≤_, _<_}
 use native.Mathlib.Numerals.{add-one, add-two, add-three, add-four}
-use native.Mathlib.Nat.{add-zero}
 use native.Mathlib.Omega.{arith}
-use mathlib.Core.Path.{_≡_, refl, sym, ap, ap₂, _∙_}
+use mathlib.Core.Path.{_≡_, refl, sym, _∙_}
 use mathlib.Core.List.{List, [], _∷_, _++_, append-assoc}
-use lib.ListN.{length, getD, take, drop, set, length-set, length-drop}
-use lib.Seq.{sets-eq, getD-set-other, drop-set-add, take-set-le, set-append-left}
-use Rattle.rows.specs.Raw.{Raw, flat, rawAt, Laid, Left, reweighed}
-use Rattle.rows.proofs.Flat.{length-flat, rawAt-drop, first-five}
-use Rattle.rows.proofs.Changes.{length-reweighed, flat-reweighed}
+use lib.ListN.{length, getD, take, drop, set, replicate, getD-replicate, length-drop}
+use lib.Seq.{sets-eq, set-getD, getD-drop, getD-take, paste, paste-suc, drop-paste, take-all, length-take-le}
+use Rattle.clause.specs.declared.Clause.{Clause}
+use Rattle.words.specs.Layout.{signsWord, weightWord}
+use Rattle.rows.specs.Raw.{rowWidth, rawWords, rawAt, rawsIn, rowForm, Laid, Left, weighing, signWords, rawRow, reweighed}
+use Rattle.rows.proofs.Flat.{rowLaws, length-rawsFrom, raw-at}
+use Rattle.rows.proofs.FormTables.{row-replaced}
 
--- five words stored one behind the other
-pub five-stored : (t : List ℕ) (at v₀ v₁ v₂ v₃ v₄ : ℕ) → at + 5 ≤ length t
+-- ---- words copied one after another to place at: n of them, from s
+
+module _ (t : List ℕ) (at n : ℕ) (s : List ℕ) (long : length s ≡ n) (fits : at + n ≤ length t) where
+  pub copy-next : (t′ : List ℕ) (i v : ℕ) → t′ ≡ paste t at s i → i < n → v ≡ getD s i 0 → set t′ (at + i) v ≡ paste t at s (i + 1)
+  copy-next t′ i v inv h e = rw (inv, e, add-one i) (paste-suc t at s i 0 (omega arith) (omega arith))
+
+  pub copy-end : (t′ : List ℕ) (i : ℕ) → t′ ≡ paste t at s i → i ≡ n → t′ ≡ take at t ++ (s ++ drop (at + n) t)
+  copy-end t′ i inv e =
+      let all : length s ≤ n = omega arith in
+      inv ∙ rw (e, take-all n s all) (append-assoc (take at t) s (drop (at + n) t))
+
+-- what is read behind the part written so far is what stood there
+pub copy-read : (t : List ℕ) (at n i : ℕ) (s t′ : List ℕ) → t′ ≡ paste t at s i → at ≤ length t → i ≤ length s
+    → getD t′ (at + n + i) 0 ≡ getD t (at + n + i) 0
+copy-read t at n i s t′ inv h k =
+    let place : at + n + i ≡ at + i + n = omega arith in
+    rw (inv, place, ← getD-drop (at + i) (paste t at s i) n 0, drop-paste t at s i h k) (getD-drop (at + i) t n 0)
+
+-- the words behind, and the zeros
+pub behind-long : (t : List ℕ) (at n : ℕ) → at + n ≤ length t → length (take n (drop at t)) ≡ n
+behind-long t at n h = let l : n ≤ length (drop at t) = simp length-drop (omega arith) in length-take-le n (drop at t) l
+
+pub behind-at : (t : List ℕ) (at n i : ℕ) → i < n → getD t (at + i) 0 ≡ getD (take n (drop at t)) i 0
+behind-at t at n i h = sym (getD-take n (drop at t) i 0 h ∙ getD-drop at t i 0)
+
+pub zero-at : (n i : ℕ) → i < n → _≡_ {A = ℕ} 0 (getD (replicate n 0) i 0)
+zero-at n i h = sym (getD-replicate n i 0 0 h)
+
+-- ---- the weight behind the sign words
+
+five-stored : (t : List ℕ) (at v₀ v₁ v₂ v₃ v₄ : ℕ) → at + 5 ≤ length t
     → set (set (set (set (set t at v₀) (at + 1) v₁) (at + 2) v₂) (at + 3) v₃) (at + 4) v₄
     ≡ take at t ++ ((v₀ ∷ v₁ ∷ v₂ ∷ v₃ ∷ v₄ ∷ []) ++ drop (at + 5) t)
 five-stored t at v₀ v₁ v₂ v₃ v₄ h =
     rw (add-one at, add-two at, add-three at, add-four at) (sets-eq (v₀ ∷ v₁ ∷ v₂ ∷ v₃ ∷ v₄ ∷ []) t at h ∙ append-assoc (take at t) (v₀ ∷ v₁ ∷ v₂ ∷ v₃ ∷ v₄ ∷ []) (drop (at + 5) t))
 
--- ---- a row moved down
+-- the sign words stay
+pub weight-stored : (t : List ℕ) (at weight v : ℕ) → at + rowWidth ≤ length t → v ≡ weightWord weight
+    → set t (at + 4) v ≡ take at t ++ (rawWords (weighing (rawAt t at) weight) ++ drop (at + rowWidth) t)
+unfolding rawAt
+weight-stored t at weight v h e =
+    rw e
+    (rw (set-getD t at 0, set-getD t (at + 1) 0, set-getD t (at + 2) 0, set-getD t (at + 3) 0) at
+    (five-stored t at (getD t at 0) (getD t (at + 1) 0) (getD t (at + 2) 0) (getD t (at + 3) 0) (weightWord weight) h))
 
-five-behind : (t : List ℕ) (at v₀ v₁ v₂ v₃ v₄ : ℕ) → at + 5 ≤ length t → v₀ ≡ getD t at 0 → v₁ ≡ getD t (at + 1) 0 → v₂ ≡ getD t (at + 2) 0 → v₃ ≡ getD t (at + 3) 0 → v₄ ≡ getD t (at + 4) 0
-    → v₀ ∷ v₁ ∷ v₂ ∷ v₃ ∷ v₄ ∷ [] ≡ take 5 (drop at t)
-unfolding flat rawAt
-five-behind t at v₀ v₁ v₂ v₃ v₄ h e₀ e₁ e₂ e₃ e₄ =
-    let same : v₀ ∷ v₁ ∷ v₂ ∷ v₃ ∷ v₄ ∷ [] ≡ flat (rawAt t at ∷ []) = λ i. e₀ i ∷ e₁ i ∷ e₂ i ∷ e₃ i ∷ e₄ i ∷ [] in
-    let there : rawAt (drop at t) 0 ≡ rawAt t at = rawAt-drop t at 0 ∙ ap (rawAt t) (add-zero at) in
-    let long : 5 ≤ length (drop at t) = simp length-drop (omega arith) in
-    same ∙ ap (λ r. flat (r ∷ [])) (sym there) ∙ first-five (drop at t) long
-
--- the words of the row behind, each read after the stores before it
-pub five-moved : (t : List ℕ) (at : ℕ) → at + 10 ≤ length t
-    → (v₀ v₁ v₂ v₃ v₄ : ℕ)
-    → v₀ ≡ getD t (at + 5) 0
-    → v₁ ≡ getD (set t at v₀) (at + 6) 0
-    → v₂ ≡ getD (set (set t at v₀) (at + 1) v₁) (at + 7) 0
-    → v₃ ≡ getD (set (set (set t at v₀) (at + 1) v₁) (at + 2) v₂) (at + 8) 0
-    → v₄ ≡ getD (set (set (set (set t at v₀) (at + 1) v₁) (at + 2) v₂) (at + 3) v₃) (at + 9) 0
-    → set (set (set (set (set t at v₀) (at + 1) v₁) (at + 2) v₂) (at + 3) v₃) (at + 4) v₄
-    ≡ take at t ++ (take 5 (drop (at + 5) t) ++ drop (at + 5) t)
-five-moved t at h v₀ v₁ v₂ v₃ v₄ e₀ e₁ e₂ e₃ e₄ =
-    let t₁ = set t at v₀ in
-    let t₂ = set t₁ (at + 1) v₁ in
-    let t₃ = set t₂ (at + 2) v₂ in
-    let g₁ : v₁ ≡ getD t (at + 5 + 1) 0 = e₁ ∙ getD-set-other t at (at + 6) v₀ 0 (omega arith) ∙ ap (λ n. getD t n 0) (sum 1) in
-    let g₂ : v₂ ≡ getD t (at + 5 + 2) 0 = e₂ ∙ getD-set-other t₁ (at + 1) (at + 7) v₁ 0 (omega arith) ∙ getD-set-other t at (at + 7) v₀ 0 (omega arith) ∙ ap (λ n. getD t n 0) (sum 2) in
-    let g₃ : v₃ ≡ getD t (at + 5 + 3) 0 =
-    e₃ ∙ getD-set-other t₂ (at + 2) (at + 8) v₂ 0 (omega arith) ∙ getD-set-other t₁ (at + 1) (at + 8) v₁ 0 (omega arith) ∙ getD-set-other t at (at + 8) v₀ 0 (omega arith) ∙ ap (λ n. getD t n 0) (sum 3) in
-    let g₄ : v₄ ≡ getD t (at + 5 + 4) 0 =
-    e₄ ∙ getD-set-other t₃ (at + 3) (at + 9) v₃ 0 (omega arith) ∙ getD-set-other t₂ (at + 2) (at + 9) v₂ 0 (omega arith) ∙ getD-set-other t₁ (at + 1) (at + 9) v₁ 0 (omega arith) ∙ getD-set-other t at (at + 9) v₀ 0 (omega arith) ∙ ap (λ n. getD t n 0) (sum 4) in
-    let row = five-behind t (at + 5) v₀ v₁ v₂ v₃ v₄ (omega arith) e₀ g₁ g₂ g₃ g₄ in
-    five-stored t at v₀ v₁ v₂ v₃ v₄ (omega arith) ∙ ap (λ ws. take at t ++ (ws ++ drop (at + 5) t)) row
-  where
-    sum : (i : ℕ) → at + (5 + i) ≡ at + 5 + i
-    sum i = omega arith
-
--- ---- a weight word
-
-pub row-reweighed : (t : List ℕ) (base : ℕ) (rs : List Raw) (k v : ℕ) → Laid t base rs → k < length rs
-    → Left t base (set t (base + 5 * k + 4) v) (reweighed rs k v)
-row-reweighed t base rs k v l h =
-    let fits = l .fits in
-    let n = length-flat rs in
-    let place : base + 5 * k + 4 ≡ base + (5 * k + 4) = omega arith in
-    record {
-      long = length-set t (base + 5 * k + 4) v;
-      front = take-set-le base t (base + 5 * k + 4) v (omega arith);
-      rows =
-          record {
-            fits = simp (length-set, length-reweighed) fits;
-            behind = rw (length-set t (base + 5 * k + 4) v, length-reweighed rs k v, flat-reweighed rs k v h, place, drop-set-add base t (5 * k + 4) v, l .behind) (set-append-left (flat rs) _ (5 * k + 4) v (omega arith));
-          };
-    }
+pub row-reweighed : (t t′ : List ℕ) (base count k weight : ℕ) → Laid t base (rawsIn t base count) → k < count
+    → t′ ≡ take (base + rowWidth * k) t ++ (rawWords (weighing (rawAt t (base + rowWidth * k)) weight) ++ drop (base + rowWidth * k + rowWidth) t)
+    → Left t base t′ (reweighed (rawsIn t base count) k weight)
+unfolding reweighed
+row-reweighed t t′ base count k weight l h e =
+    let n = length-rawsFrom count (drop base t) in
+    row-replaced rowForm rowLaws t t′ base (rawsIn t base count) k _ l (omega arith)
+    (rw (raw-at t base count k h) e)
 
 -- ---- a row at the front of a part
 
-pub row-stored : (t : List ℕ) (r : Raw) (v₀ v₁ v₂ v₃ v₄ : ℕ) → 5 ≤ length t → v₀ ≡ r .a → v₁ ≡ r .b → v₂ ≡ r .c → v₃ ≡ r .d → v₄ ≡ r .w
-    → set (set (set (set (set t 0 v₀) 1 v₁) 2 v₂) 3 v₃) 4 v₄ ≡ flat (r ∷ []) ++ drop 5 t
-unfolding flat
-row-stored t r v₀ v₁ v₂ v₃ v₄ h e₀ e₁ e₂ e₃ e₄ =
-    let row : v₀ ∷ v₁ ∷ v₂ ∷ v₃ ∷ v₄ ∷ [] ≡ flat (r ∷ []) = λ i. e₀ i ∷ e₁ i ∷ e₂ i ∷ e₃ i ∷ e₄ i ∷ [] in
-    five-stored t 0 v₀ v₁ v₂ v₃ v₄ h ∙ ap (λ ws. ws ++ drop 5 t) row
+signs-stored : (p : List ℕ) (v₀ v₁ v₂ v₃ weight : ℕ) → 4 ≤ length p
+    → let q = set (set (set (set p 0 v₀) 1 v₁) 2 v₂) 3 v₃ in
+    rawWords (weighing (rawAt q 0) weight) ++ drop rowWidth q ≡ rawWords (weighing (signWords v₀ v₁ v₂ v₃) weight) ++ drop rowWidth p
+unfolding rawAt
+signs-stored [] v₀ v₁ v₂ v₃ weight h = absurd (omega arith)
+signs-stored (a ∷ []) v₀ v₁ v₂ v₃ weight h = absurd (omega arith)
+signs-stored (a ∷ b ∷ []) v₀ v₁ v₂ v₃ weight h = absurd (omega arith)
+signs-stored (a ∷ b ∷ c ∷ []) v₀ v₁ v₂ v₃ weight h = absurd (omega arith)
+signs-stored (a ∷ b ∷ c ∷ d ∷ p) v₀ v₁ v₂ v₃ weight h = refl
+
+pub row-stored : (p p′ : List ℕ) (x : Clause) (v₀ v₁ v₂ v₃ weight : ℕ) → rowWidth ≤ length p
+    → v₀ ≡ signsWord 0 (x .a) → v₁ ≡ signsWord 1 (x .b) → v₂ ≡ signsWord 2 (x .c) → v₃ ≡ signsWord 3 (x .d)
+    → let q = set (set (set (set p 0 v₀) 1 v₁) 2 v₂) 3 v₃ in
+    p′ ≡ take 0 q ++ (rawWords (weighing (rawAt q 0) weight) ++ drop (0 + rowWidth) q)
+    → p′ ≡ rawWords (rawRow x weight) ++ drop rowWidth p
+row-stored p p′ x v₀ v₁ v₂ v₃ weight h e₀ e₁ e₂ e₃ e =
+    e ∙ signs-stored p v₀ v₁ v₂ v₃ weight (omega arith)
+    ∙ λ i. rawWords (weighing (signWords (e₀ i) (e₁ i) (e₂ i) (e₃ i)) weight) ++ drop rowWidth p

@@ -1,2 +1,4 @@
--- Rows as they stand in a lent table: five words each, one behind the other, and zeros behind the last.
+-- Rows as they stand in a lent table: the words of one behind those of another, and zeros behind the last.
+pub mod Form
 pub mod Raw
+pub mod Adding

@@ -1,14 +1,22 @@
--- Raw rows: five words each, of any content. What stands behind the front of a table is raw rows and then zeros.
-use Prim.Native.Nat.{ℕ, zero, suc, _+_, _-_, _*_, _%_, _≤_}
-use mathlib.Core.Path.{_≡_}
+-- Raw rows of the form that every table has: four sign words and the weight, of any content. The width, the greatest weight,
+-- and how a weight lies in a row's words and is told from other words stand here alone.
+use Prim.Native.Nat.{ℕ, zero, suc, _+_, _%_}
 use mathlib.Core.Bool.{Bool, _&&_, cond}
-use mathlib.Core.List.{List, [], _∷_, _++_}
-use lib.ListN.{length, getD, take, drop, replicate}
-use lib.Dec.{eqb}
-use Rattle.words.specs.Layout.{signsWord, weightWord}
+use mathlib.Core.List.{List, [], _∷_}
+use lib.ListN.{getD, set, drop}
+use lib.Dec.{eqb, leb}
+use Rattle.words.specs.Layout.{kindOf, payloadOf, signsWord, weightWord}
 use Rattle.clause.specs.declared.Clause.{Clause}
 use Rattle.rows.specs.declared.Found.{Found}
 use Rattle.rows.specs.declared.Found.the-variants.{At, Missing}
+use Rattle.rows.specs.Form.{Form, flatIn, rawsFromIn, LaidIn, LeftIn}
+
+-- words to a row, and the greatest weight
+abbrev pub rowWidth : ℕ
+rowWidth = 5
+
+abbrev pub maxWeight : ℕ
+maxWeight = 268435455
 
 -- four sign words and a weight word
 pub record Raw : Type 0 where
@@ -21,41 +29,66 @@ pub record Raw : Type 0 where
 abbrev pub noRaw : Raw
 noRaw = record { a = 0; b = 0; c = 0; d = 0; w = 0 }
 
--- the words of raw rows, and raw rows read from words
-unfoldable pub flat : List Raw → List ℕ
-flat [] = []
-flat (r ∷ rs) = r .a ∷ r .b ∷ r .c ∷ r .d ∷ r .w ∷ flat rs
+-- the words of a raw row, and the raw row whose words start at a place
+abbrev pub rawWords : Raw → List ℕ
+rawWords r = r .a ∷ r .b ∷ r .c ∷ r .d ∷ r .w ∷ []
 
 unfoldable pub rawAt : List ℕ → ℕ → Raw
 rawAt t at =
     record { a = getD t at 0; b = getD t (at + 1) 0; c = getD t (at + 2) 0; d = getD t (at + 3) 0; w = getD t (at + 4) 0 }
 
-unfoldable pub rawsFrom : ℕ → List ℕ → List Raw
-rawsFrom zero ws = []
-rawsFrom (suc k) ws = rawAt ws 0 ∷ rawsFrom k (drop 5 ws)
+-- ---- tables of these rows
+
+abbrev pub rowForm : Form
+rowForm = record { Raw = Raw; width = rowWidth; words = rawWords; read = rawAt }
+
+abbrev pub flat : List Raw → List ℕ
+flat rs = flatIn rowForm rs
+
+abbrev pub rawsFrom : ℕ → List ℕ → List Raw
+rawsFrom k ws = rawsFromIn rowForm k ws
 
 -- the raw rows of a table whose rows start at base
 abbrev pub rawsIn : List ℕ → ℕ → ℕ → List Raw
 rawsIn t base count = rawsFrom count (drop base t)
 
--- t is a front of base words, these raw rows, and zeros
-pub record Laid (t : List ℕ) (base : ℕ) (rs : List Raw) : Type 0 where
-  pub fits : base + 5 * length rs ≤ length t
-  pub behind : drop base t ≡ flat rs ++ replicate (length t - (base + 5 * length rs)) 0
+abbrev pub Laid : List ℕ → ℕ → List Raw → Type 0
+Laid t base rs = LaidIn rowForm t base rs
 
--- t has become t′: as long, with the same front, and now these raw rows
-pub record Left (t : List ℕ) (base : ℕ) (t′ : List ℕ) (rs : List Raw) : Type 0 where
-  pub long : length t′ ≡ length t
-  pub front : take base t′ ≡ take base t
-  pub rows : Laid t′ base rs
+abbrev pub Left : List ℕ → ℕ → List ℕ → List Raw → Type 0
+Left t base t′ rs = LeftIn rowForm t base t′ rs
+
+-- ---- the weight and the clause of a raw row
+
+-- the weight that a raw row's words give, whatever their kinds
+unfoldable pub weightIn : Raw → ℕ
+weightIn r = payloadOf (r .w)
+
+-- a weight of at least 1
+abbrev pub isWeight : ℕ → Bool
+isWeight w = eqb (kindOf w) 6 && leb 1 (payloadOf w)
+
+-- the row in front of the words has a weight of at least 1 behind its sign words
+unfoldable pub rowWeighs : List ℕ → Bool
+rowWeighs ws = isWeight (getD ws 4 0)
+
+-- the raw row with this weight in place of its own
+abbrev pub weighing : Raw → ℕ → Raw
+weighing r weight = record { a = r .a; b = r .b; c = r .c; d = r .d; w = weightWord weight }
+
+-- four sign words, with no weight yet
+abbrev pub signWords : ℕ → ℕ → ℕ → ℕ → Raw
+signWords a b c d = record { a = a; b = b; c = c; d = d; w = 0 }
 
 -- the raw row of a clause and a weight
 abbrev pub rawRow : Clause → ℕ → Raw
-rawRow x w = record { a = signsWord 0 (x .a); b = signsWord 1 (x .b); c = signsWord 2 (x .c); d = signsWord 3 (x .d); w = weightWord w }
+rawRow x weight = weighing (signWords (signsWord 0 (x .a)) (signsWord 1 (x .b)) (signsWord 2 (x .c)) (signsWord 3 (x .d))) weight
 
 -- the clause of a raw row
 abbrev pub clauseIn : Raw → Clause
 clauseIn r = record { a = r .a % 16777216; b = r .b % 16777216; c = r .c % 16777216; d = r .d % 16777216 }
+
+-- ---- lists of raw rows
 
 -- two raw rows have the same sign words
 unfoldable pub sameSigns : Raw → Raw → Bool
@@ -66,11 +99,9 @@ unfoldable pub findFrom : Raw → ℕ → List Raw → Found
 findFrom q k [] = Missing
 findFrom q k (r ∷ rs) = cond (sameSigns r q) (At k) (findFrom q (suc k) rs)
 
--- the weight word of raw row k replaced
+-- raw row k with another weight
 unfoldable pub reweighed : List Raw → ℕ → ℕ → List Raw
-reweighed [] k w = []
-reweighed (r ∷ rs) zero w = record { a = r .a; b = r .b; c = r .c; d = r .d; w = w } ∷ rs
-reweighed (r ∷ rs) (suc k) w = r ∷ reweighed rs k w
+reweighed rs k weight = set rs k (weighing (getD rs k noRaw) weight)
 
 -- raw row k taken out, the rest closing up
 unfoldable pub without : List Raw → ℕ → List Raw

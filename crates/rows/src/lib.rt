@@ -1,12 +1,17 @@
-// Rows in a table that the caller lends: reading, finding, writing behind the last, removing. Rows start at `base`; `count` of them are there.
+// Rows in a table that the caller lends: reading, finding, writing behind the last, adding, removing. Rows start at `base`; `count` of them are there.
 ghost use mathlib.Core.Path.{_≡_};
-ghost use mathlib.Core.List.{List, [], _∷_, _++_};
-ghost use Prim.Native.Nat.{_+_, _*_, _<_, _≤_, _%_};
+ghost use mathlib.Core.List.{[], _∷_, _++_};
+ghost use Prim.Native.Nat.{_+_, _*_, _<_, _≤_};
 ghost use lib.ListN.{length, getD, take, drop, replicate};
-ghost use Rattle.words.specs.Layout.{weightWord};
 ghost use Rattle.clause.specs.Packed.{Packed};
-ghost use Rattle.rows.specs.Raw.{Raw, flat, rawAt, rawsIn, Laid, Left, rawRow, clauseIn, findFrom, reweighed, without};
+ghost use Rattle.rows.specs.Raw.{rowWidth, maxWeight, rawWords, rawAt, rawsIn, Laid, Left, weightIn, rowWeighs, weighing, rawRow, clauseIn, findFrom, reweighed, without};
+ghost use Rattle.rows.specs.Adding.{added, Addable};
 use clause::Clause;
+
+// Words to a row, and the greatest weight.
+pub const WIDTH: usize = 5;
+
+pub const MAX_WEIGHT: u64 = 268435455;
 
 // Where a row stands.
 pub enum Found {
@@ -16,10 +21,10 @@ pub enum Found {
 
 // The clause of row k.
 pub fn clause_of(t: &[u32], base: usize, k: usize) -> Clause
-    requires { ⌜ base + 5 * k + 5 ≤ length (now t) ⌝ }
-    ensures { λ r. ⌜ (r ≡ clauseIn (rawAt (now (t .entry)) (base + 5 * k))) × Packed r ⌝ }
+    requires { ⌜ base + rowWidth * k + rowWidth ≤ length (now t) ⌝ }
+    ensures { λ r. ⌜ (r ≡ clauseIn (rawAt (now (t .entry)) (base + rowWidth * k))) × Packed r ⌝ }
 {
-    let at = base + 5 * k;
+    let at = base + WIDTH * k;
     Clause {
         a: t[at] % 16777216,
         b: t[at + 1] % 16777216,
@@ -29,12 +34,24 @@ pub fn clause_of(t: &[u32], base: usize, k: usize) -> Clause
 }
 
 // The weight of row k.
-pub fn weight_of(t: &[u32], base: usize, k: usize) -> u32
-    requires { ⌜ base + 5 * k + 5 ≤ length (now t) ⌝ }
-    ensures { λ r. ⌜ (r ≡ rawAt (now (t .entry)) (base + 5 * k) .w % 268435456) × (r < 268435456) ⌝ }
+pub fn weight_of(t: &[u32], base: usize, k: usize) -> u64
+    requires { ⌜ base + rowWidth * k + rowWidth ≤ length (now t) ⌝ }
+    ensures { λ r. ⌜ (r ≡ weightIn (rawAt (now (t .entry)) (base + rowWidth * k))) × (r ≤ maxWeight) ⌝ }
 {
-    let at = base + 5 * k;
-    t[at + 4] % 268435456
+    let at = base + WIDTH * k;
+    words::payload(t[at + 4]) as u64
+}
+
+// Behind the sign words of the row at this place stands a weight of at least 1.
+pub fn weight_there(t: &[u32], at: usize) -> bool
+    requires { ⌜ at + rowWidth ≤ length (now t) ⌝ }
+    ensures { λ r. ⌜ r ≡ rowWeighs (drop at (now (t .entry))) ⌝ }
+{
+    let word = t[at + 4];
+    if words::kind(word) != 6 {
+        return false;
+    }
+    words::payload(word) != 0
 }
 
 // The place of a sign word that few rows share: the first with a literal.
@@ -72,7 +89,7 @@ fn word_at(k: usize, a: u32, b: u32, c: u32, d: u32) -> u32
 
 // The first row with this clause's sign words. One of them is compared first, which rules out nearly every row.
 pub fn find(t: &[u32], base: usize, count: usize, x: Clause) -> Found
-    requires { ⌜ (base + 5 * count ≤ length (now t)) × Packed x ⌝ }
+    requires { ⌜ (base + rowWidth * count ≤ length (now t)) × Packed x ⌝ }
     ensures { λ r. ⌜ r ≡ findFrom (rawRow x 0) 0 (rawsIn (now (t .entry)) base count) ⌝ }
 {
     let a = words::signs(0, x.a);
@@ -92,76 +109,103 @@ pub fn find(t: &[u32], base: usize, count: usize, x: Clause) -> Found
         {
             return Found::At(k);
         }
-        at += 5;
+        at += WIDTH;
         k += 1;
     }
     Found::Missing
 }
 
-// The row writer: five words at the front of the part it is lent.
-fn write_row(part: &mut [u32], x: Clause, weight: u32)
-    requires { ⌜ (5 ≤ length (now part)) × Packed x × (weight < 268435456) ⌝ }
-    ensures { λ r. ⌜ now (part .exit) ≡ flat (rawRow x weight ∷ []) ++ drop 5 (now (part .entry)) ⌝ }
+// The weight of the row whose words start at this place, behind its sign words.
+fn write_weight(t: &mut [u32], at: usize, weight: u64)
+    requires { ⌜ (at + rowWidth ≤ length (now t)) × (weight ≤ maxWeight) ⌝ }
+    ensures { λ r. ⌜ now (t .exit) ≡ take at (now (t .entry)) ++ (rawWords (weighing (rawAt (now (t .entry)) at) weight) ++ drop (at + rowWidth) (now (t .entry))) ⌝ }
+{
+    t[at + 4] = words::weight(weight as u32);
+}
+
+// The row writer: a row's words at the front of the part it is lent.
+fn write_row(part: &mut [u32], x: Clause, weight: u64)
+    requires { ⌜ (rowWidth ≤ length (now part)) × Packed x × (weight ≤ maxWeight) ⌝ }
+    ensures { λ r. ⌜ now (part .exit) ≡ rawWords (rawRow x weight) ++ drop rowWidth (now (part .entry)) ⌝ }
 {
     part[0] = words::signs(0, x.a);
     part[1] = words::signs(1, x.b);
     part[2] = words::signs(2, x.c);
     part[3] = words::signs(3, x.d);
-    part[4] = words::weight(weight);
+    write_weight(part, 0, weight);
 }
 
 // A new row after the last one: the part of the table that starts at its place is lent on to the row writer.
-pub fn append(t: &mut [u32], base: usize, count: usize, x: Clause, weight: u32)
-    requires { ⌜ Laid (now t) base (rawsIn (now t) base count) × (base + 5 * count + 5 ≤ length (now t)) × Packed x × (weight < 268435456) ⌝ }
+pub fn append(t: &mut [u32], base: usize, count: usize, x: Clause, weight: u64)
+    requires { ⌜ Laid (now t) base (rawsIn (now t) base count) × (base + rowWidth * count + rowWidth ≤ length (now t)) × Packed x × (weight ≤ maxWeight) ⌝ }
     ensures { λ r. ⌜ Left (now (t .entry)) base (now (t .exit)) (rawsIn (now (t .entry)) base count ++ (rawRow x weight ∷ [])) ⌝ }
 {
-    let at = base + 5 * count;
+    let at = base + WIDTH * count;
     write_row(&mut t[at..], x, weight);
 }
 
 // Another weight for row k.
-pub fn reweigh(t: &mut [u32], base: usize, count: usize, k: usize, weight: u32)
-    requires { ⌜ Laid (now t) base (rawsIn (now t) base count) × (base + 5 * count ≤ length (now t)) × (k < count) × (weight < 268435456) ⌝ }
-    ensures { λ r. ⌜ Left (now (t .entry)) base (now (t .exit)) (reweighed (rawsIn (now (t .entry)) base count) k (weightWord weight)) ⌝ }
+pub fn reweigh(t: &mut [u32], base: usize, count: usize, k: usize, weight: u64)
+    requires { ⌜ Laid (now t) base (rawsIn (now t) base count) × (base + rowWidth * count ≤ length (now t)) × (k < count) × (weight ≤ maxWeight) ⌝ }
+    ensures { λ r. ⌜ Left (now (t .entry)) base (now (t .exit)) (reweighed (rawsIn (now (t .entry)) base count) k weight) ⌝ }
 {
-    let at = base + 5 * k + 4;
-    t[at] = words::weight(weight);
+    let at = base + WIDTH * k;
+    write_weight(t, at, weight);
 }
 
-// The row behind row k moved down onto it.
-fn move_down(t: &mut [u32], at: usize)
-    requires { ⌜ at + 10 ≤ length (now t) ⌝ }
-    ensures { λ r. ⌜ now (t .exit) ≡ take at (now (t .entry)) ++ (take 5 (drop (at + 5) (now (t .entry))) ++ drop (at + 5) (now (t .entry))) ⌝ }
+// A clause added to the rows: its weight goes to the row with its signs, else to a new last row; weight 0 adds nothing. Answers the number of rows.
+pub fn add(t: &mut [u32], base: usize, count: usize, x: Clause, weight: u64) -> usize
+    requires { ⌜ Addable (now t) base count x weight ⌝ }
+    ensures { λ r. ⌜ Left (now (t .entry)) base (now (t .exit)) (added (rawsIn (now (t .entry)) base count) x weight) × (r ≡ length (added (rawsIn (now (t .entry)) base count) x weight)) ⌝ }
 {
-    t[at] = t[at + 5];
-    t[at + 1] = t[at + 6];
-    t[at + 2] = t[at + 7];
-    t[at + 3] = t[at + 8];
-    t[at + 4] = t[at + 9];
+    if weight == 0 {
+        return count;
+    }
+    let found = find(t, base, count, x);
+    let Found::At(k) = found else {
+        append(t, base, count, x, weight);
+        return count + 1;
+    };
+    let sum = weight_of(t, base, k) + weight;
+    reweigh(t, base, count, k, sum);
+    count
+}
+
+// The row behind the one at this place moved down onto it.
+fn move_down(t: &mut [u32], at: usize)
+    requires { ⌜ at + rowWidth + rowWidth ≤ length (now t) ⌝ }
+    ensures { λ r. ⌜ now (t .exit) ≡ take at (now (t .entry)) ++ (take rowWidth (drop (at + rowWidth) (now (t .entry))) ++ drop (at + rowWidth) (now (t .entry))) ⌝ }
+{
+    let mut i = 0;
+    while i < WIDTH {
+        t[at + i] = t[at + WIDTH + i];
+        i += 1;
+    }
+}
+
+// The words of the row at this place cleared.
+fn clear(t: &mut [u32], at: usize)
+    requires { ⌜ at + rowWidth ≤ length (now t) ⌝ }
+    ensures { λ r. ⌜ now (t .exit) ≡ take at (now (t .entry)) ++ (replicate rowWidth 0 ++ drop (at + rowWidth) (now (t .entry))) ⌝ }
+{
+    let mut i = 0;
+    while i < WIDTH {
+        t[at + i] = 0;
+        i += 1;
+    }
 }
 
 // Row k taken out: the rows behind it close up, and the words of the last place are cleared.
 pub fn remove(t: &mut [u32], base: usize, count: usize, k: usize)
-    requires { ⌜ Laid (now t) base (rawsIn (now t) base count) × (base + 5 * count ≤ length (now t)) × (k < count) ⌝ }
+    requires { ⌜ Laid (now t) base (rawsIn (now t) base count) × (base + rowWidth * count ≤ length (now t)) × (k < count) ⌝ }
     ensures { λ r. ⌜ Left (now (t .entry)) base (now (t .exit)) (without (rawsIn (now (t .entry)) base count) k) ⌝ }
 {
     let mut j = k + 1;
-    let mut at = base + 5 * k;
+    let mut at = base + WIDTH * k;
     while j < count {
         move_down(t, at);
-        at += 5;
+        at += WIDTH;
         j += 1;
     }
     clear(t, at);
-}
-
-fn clear(t: &mut [u32], at: usize)
-    requires { ⌜ at + 5 ≤ length (now t) ⌝ }
-    ensures { λ r. ⌜ now (t .exit) ≡ take at (now (t .entry)) ++ (replicate 5 0 ++ drop (at + 5) (now (t .entry))) ⌝ }
-{
-    t[at] = 0;
-    t[at + 1] = 0;
-    t[at + 2] = 0;
-    t[at + 3] = 0;
-    t[at + 4] = 0;
 }

@@ -1,7 +1,15 @@
 -- The laws of this crate that belong to no one function.
-pub mod Stations
-pub mod Legs
+pub mod Coordinates
+pub mod Counting
+pub mod Located
+pub mod Sheets
+pub mod Acceptance
+pub mod Fitting
+pub mod GoodLegs
 pub mod Reading
-mod Places
+mod Walking
 mod Writing
 pub mod Making
+pub mod MakeTests
+pub mod Faults
+pub mod Placed

@@ -2,21 +2,25 @@
 use Prim.Native.Nat.{ℕ, suc, _+_, _*_, _≤_, _<_}
 use native.Mathlib.Numerals.{one-add}
 use native.Mathlib.Omega.{arith}
-use mathlib.Core.Path.{_≡_, refl, sym, ap, ap₂, _∙_}
+use mathlib.Core.Path.{_≡_, refl, ap, ap₂, _∙_}
 use mathlib.Core.List.{List, [], _∷_, _++_, map, append-assoc, append-nil}
 use lib.ListN.{length, getD, length-append, length-map}
 use lib.Seq.{take-at, drop-at}
-use borrow.Author.Tests.{le-leb, lt-ltb, le-ltb, lt-leb, ne-eqb}
+use borrow.Author.Tests.{eq-eqb, ne-eqb, le-leb, lt-ltb, le-ltb, lt-leb}
 use Rattle.wcsp.specs.Entry.{Binding}
-use Rattle.words.specs.Layout.{payloadOf, headWord, sizeWord, bindingWord, costWord}
-use Rattle.words.proofs.Reading.{read-head, read-size, read-binding, read-cost}
-use Rattle.input.specs.Instance.{maxValues, scanBinding, scanCost, scanWord, resume, entriesFault, sizeIn, variablesIn, stationsFault, instanceFault, entriesAfter, entriesFrom, sizesOf, entriesOf}
-use Rattle.input.specs.Sheet.{legCount, positionsOf, sheetSizes, entryWordsOf}
-use Rattle.input.specs.Accepted.{Each, nilEach, consEach, Sizes, AcceptedSheet}
-use Rattle.input.proofs.Acceptance.{accepted-sheet}
+use Rattle.words.specs.Layout.{kindOf, payloadOf, headWord, sizeWord, bindingWord, costWord}
+use Rattle.words.proofs.Reading.{read-binding, read-cost}
+use Rattle.words.proofs.Inverse.{binding-kind, cost-kind}
+use Rattle.fields.specs.Limits.{maxVariables, maxValues, maxEntries, maxCost}
+use Rattle.fields.specs.Front.{frontWords}
+use Rattle.fields.specs.Entries.{EachSize, nilEach, consEach, FieldSizes, entriesFrom}
+use Rattle.fields.proofs.Fronts.{head-is, size-is}
+use Rattle.input.specs.Instance.{scanBinding, scanCost, scanWord, resume, entriesFault, stationsFault, instanceFault, sizesOf, entriesOf}
+use Rattle.sheet.specs.Sheet.{legCount, positionsOf, sheetSizes, entryWordsOf}
 use Rattle.sheet.specs.Made.{Leg, legEntry, allLegWords, legsFrom, madeWords, madeEntries}
-use Rattle.sheet.specs.Promises.{MadeAccepted, MadeIsAccepted}
-use Rattle.sheet.proofs.Legs.{GoodLeg, GoodLegs, nilLegs, consLegs, legs-length, good-legs}
+use Rattle.sheet.specs.Promises.{MadeIsAccepted}
+use Rattle.sheet.proofs.Acceptance.{accepted-sheet}
+use Rattle.sheet.proofs.GoodLegs.{GoodLegs, nilLegs, consLegs, legs-length, good-legs}
 
 -- ---- one word
 
@@ -24,27 +28,35 @@ module _ (sizes : List ℕ) (from count : ℕ) where
   fault-binding : (v a : ℕ) (ws : List ℕ) → from ≤ v → a < getD sizes v 0 → v < 1048576 → a < 256
       → entriesFault sizes from count (bindingWord v a ∷ ws) ≡ entriesFault sizes (suc v) count ws
   unfolding entriesFault scanWord scanBinding resume
-  fault-binding v a ws hv ha sv sa = rw (read-binding v a sv sa, le-leb from v hv, lt-ltb a (getD sizes v 0) ha)
+  fault-binding v a ws hv ha sv sa =
+      let (k, p, q) = binding-kind (bindingWord v a) v a (read-binding v a sv sa) in
+      rw (eq-eqb (kindOf (bindingWord v a)) 3 k, p, q, le-leb from v hv, lt-ltb a (getD sizes v 0) ha)
 
-  fault-cost : (c : ℕ) (ws : List ℕ) → c ≤ 65535 → count < 4096
+  fault-cost : (c : ℕ) (ws : List ℕ) → c ≤ maxCost → count < maxEntries
       → entriesFault sizes from count (costWord c ∷ ws) ≡ entriesFault sizes 0 (suc count) ws
   unfolding entriesFault scanWord scanCost resume
-  fault-cost c ws hc room = rw (read-cost c (omega arith), le-ltb 65535 c hc, lt-leb 4096 count room)
+  fault-cost c ws hc room =
+      let (k, p) = cost-kind (costWord c) c (read-cost c (omega arith)) in
+      rw (ne-eqb (kindOf (costWord c)) 3 (omega arith), eq-eqb (kindOf (costWord c)) 4 k, p, le-ltb maxCost c hc, lt-leb maxEntries count room)
 
 module _ (bs : List Binding) where
   means-binding : (v a : ℕ) (ws : List ℕ) → v < 1048576 → a < 256
       → entriesFrom bs (bindingWord v a ∷ ws) ≡ entriesFrom (bs ++ (record { variable = v; value = a } ∷ [])) ws
-  unfolding entriesFrom entriesAfter
-  means-binding v a ws sv sa = rw (read-binding v a sv sa)
+  unfolding entriesFrom
+  means-binding v a ws sv sa =
+      let (k, p, q) = binding-kind (bindingWord v a) v a (read-binding v a sv sa) in
+      rw (eq-eqb (kindOf (bindingWord v a)) 3 k, p, q)
 
   means-cost : (c : ℕ) (ws : List ℕ) → c < 268435456
       → entriesFrom bs (costWord c ∷ ws) ≡ record { bindings = bs; cost = c } ∷ entriesFrom [] ws
-  unfolding entriesFrom entriesAfter
-  means-cost c ws hc = rw (read-cost c hc)
+  unfolding entriesFrom
+  means-cost c ws hc =
+      let (k, p) = cost-kind (costWord c) c (read-cost c hc) in
+      rw (ne-eqb (kindOf (costWord c)) 3 (omega arith), eq-eqb (kindOf (costWord c)) 4 k, p)
 
 -- ---- legs
 
-legs-pass : {sizes : List ℕ} {legs : List Leg} (count : ℕ) (rest : List ℕ) → GoodLegs sizes legs → count + length legs ≤ 4096
+legs-pass : {sizes : List ℕ} {legs : List Leg} (count : ℕ) (rest : List ℕ) → GoodLegs sizes legs → count + length legs ≤ maxEntries
     → entriesFault sizes 0 count (allLegWords legs ++ rest) ≡ entriesFault sizes 0 (count + length legs) rest
 unfolding allLegWords
 legs-pass {sizes} count rest nilLegs room = ap (λ n. entriesFault sizes 0 n rest) (let e : count ≡ count + 0 = omega arith in e)
@@ -73,13 +85,12 @@ leg-words-length (l ∷ ls) = omega (arith, leg-words-length ls)
 
 -- ---- sizes
 
-fault-size : (k : ℕ) (sizes : List ℕ) (d : ℕ) (ws : List ℕ) → 1 ≤ d → d ≤ 8
+fault-size : (k : ℕ) (sizes : List ℕ) (d : ℕ) (ws : List ℕ) → 1 ≤ d → d ≤ maxValues
     → stationsFault (suc k) sizes (sizeWord d ∷ ws) ≡ stationsFault k (sizes ++ (d ∷ [])) ws
-unfolding stationsFault sizeIn
-fault-size k sizes d ws p s =
-    rw (read-size d (omega arith), le-leb 1 d p, le-leb d 8 s, ne-eqb d 0 (omega arith))
+unfolding stationsFault
+fault-size k sizes d ws p s = rw (size-is (sizeWord d) d (omega arith) (omega arith) p s, ne-eqb d 0 (omega arith))
 
-sizes-pass : {ds : List ℕ} (done rest : List ℕ) → Each (λ d. (1 ≤ d) × (d ≤ maxValues)) ds
+sizes-pass : {ds : List ℕ} (done rest : List ℕ) → EachSize ds
     → stationsFault (length ds) done (map sizeWord ds ++ rest) ≡ entriesFault (done ++ ds) 0 0 rest
 unfolding stationsFault
 sizes-pass done rest nilEach = rw (append-nil done)
@@ -88,7 +99,7 @@ sizes-pass done rest (consEach {x = d} {xs = ds} h small) =
     sizes-pass (done ++ (d ∷ [])) rest small ∙
     ap (λ sizes. entriesFault sizes 0 0 rest) (append-assoc done (d ∷ []) ds)
 
-sizes-mean : {ds : List ℕ} → Each (λ d. (1 ≤ d) × (d ≤ maxValues)) ds → map payloadOf (map sizeWord ds) ≡ ds
+sizes-mean : {ds : List ℕ} → EachSize ds → map payloadOf (map sizeWord ds) ≡ ds
 sizes-mean nilEach = refl
 sizes-mean (consEach {x = d} h small) =
     let e : payloadOf (sizeWord d) ≡ d = omega arith in
@@ -96,15 +107,15 @@ sizes-mean (consEach {x = d} h small) =
 
 -- ---- the whole instance
 
-fault-head : (n : ℕ) (ws : List ℕ) → 1 ≤ n → n ≤ 12 → instanceFault (headWord n ∷ ws) ≡ stationsFault n [] ws
-unfolding instanceFault variablesIn
-fault-head n ws p s = rw (read-head n (omega arith), le-leb 1 n p, le-leb n 12 s, ne-eqb n 0 (omega arith))
+fault-head : (n : ℕ) (ws : List ℕ) → 1 ≤ n → n ≤ maxVariables → instanceFault (headWord n ∷ ws) ≡ stationsFault n [] ws
+unfolding instanceFault
+fault-head n ws p s = rw (head-is (headWord n) n (omega arith) (omega arith) p s)
 
 -- the words of sizes, legs and entries' words
-abbrev pub instanceWords : List ℕ → List Leg → List ℕ → List ℕ
-instanceWords ds legs ws = headWord (length ds) ∷ (map sizeWord ds ++ (allLegWords legs ++ ws))
+abbrev instanceWords : List ℕ → List Leg → List ℕ → List ℕ
+instanceWords ds legs ws = frontWords ds ++ (allLegWords legs ++ ws)
 
-module _ (ds : List ℕ) (legs : List Leg) (ws : List ℕ) (sizes : Sizes ds) where
+module _ (ds : List ℕ) (legs : List Leg) (ws : List ℕ) (sizes : FieldSizes ds) where
   words-accepted : GoodLegs ds legs → length legs ≡ legCount ds → legCount ds ≤ 704 → entriesFault ds 0 (legCount ds) ws ≡ 0 → instanceFault (instanceWords ds legs ws) ≡ 0
   words-accepted good counted many fine =
       fault-head (length ds) (map sizeWord ds ++ (allLegWords legs ++ ws)) (sizes .least) (sizes .most) ∙
@@ -129,23 +140,16 @@ module _ (ds : List ℕ) (legs : List Leg) (ws : List ℕ) (sizes : Sizes ds) wh
   words-length counted =
       rw (length-append (map sizeWord ds) (allLegWords legs ++ ws), length-map ds sizeWord, length-append (allLegWords legs) ws, leg-words-length legs, counted) (omega arith)
 
--- the words made are such words
-pub made-is : (sheet : List ℕ) → madeWords sheet ≡ instanceWords (sheetSizes sheet) (legsFrom 0 (positionsOf sheet)) (entryWordsOf sheet)
-unfolding madeWords sheetSizes
-made-is sheet =
-    ap (λ n. headWord n ∷ (map sizeWord (sheetSizes sheet) ++ (allLegWords (legsFrom 0 (positionsOf sheet)) ++ entryWordsOf sheet)))
-    (sym (length-map (positionsOf sheet) length))
-
 pub made-accepted : MadeIsAccepted
-unfolding madeEntries sheetSizes
+unfolding madeWords madeEntries sheetSizes
 made-accepted sheet fine =
     let a = accepted-sheet sheet fine in
     let legs : List Leg = legsFrom 0 (positionsOf sheet) in
     let good : GoodLegs (sheetSizes sheet) legs = good-legs sheet a in
     let counted : length legs ≡ legCount (sheetSizes sheet) = legs-length 0 (positionsOf sheet) in
     record {
-      accepted = rw (made-is sheet) (words-accepted (sheetSizes sheet) legs (entryWordsOf sheet) (a .sizes) good counted (a .legs) (a .fault));
-      sizes = rw (made-is sheet) (words-sizes (sheetSizes sheet) legs (entryWordsOf sheet) (a .sizes));
-      entries = rw (made-is sheet) (words-entries (sheetSizes sheet) legs (entryWordsOf sheet) (a .sizes) good);
-      words = rw (made-is sheet) (words-length (sheetSizes sheet) legs (entryWordsOf sheet) (a .sizes) counted);
+      accepted = words-accepted (sheetSizes sheet) legs (entryWordsOf sheet) (a .sizes) good counted (a .legs) (a .fault);
+      sizes = words-sizes (sheetSizes sheet) legs (entryWordsOf sheet) (a .sizes);
+      entries = words-entries (sheetSizes sheet) legs (entryWordsOf sheet) (a .sizes) good;
+      words = words-length (sheetSizes sheet) legs (entryWordsOf sheet) (a .sizes) counted;
     }

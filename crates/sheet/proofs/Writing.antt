@@ -1,24 +1,24 @@
 -- The loops that write: each turn stores the front of what is still to come. The invariant is one equation, "what the slice is to
 -- become is the slice now with the rest stored from the present index on"; here are its turns and ends.
-use Prim.Native.Nat.{ℕ, suc, _+_, _-_, _*_, _≤_, _<_}
+use Prim.Native.Nat.{ℕ, zero, suc, _+_, _-_, _*_, _≤_, _<_}
 use native.Mathlib.Nat.{add-zero}
 use native.Mathlib.Numerals.{add-one, add-two, add-three}
 use native.Mathlib.Omega.{arith}
 use mathlib.Core.Path.{_≡_, refl, sym, ap, ap₂, _∙_}
 use mathlib.Core.List.{List, [], _∷_, _++_, map}
 use lib.ListN.{length, getD, set, drop, drop-of-length-le}
-use lib.Seq.{sets, drop-cons, slice, slice-cons, slice-empty}
-use Rattle.words.specs.Layout.{payloadOf, sizeWord, bindingWord, costWord}
-use Rattle.input.specs.Sheet.{Point, legCount, pointsFrom, stationsFrom, sheetFault, positionsOf, sheetSizes}
-use Rattle.input.specs.Accepted.{Sizes, AcceptedSheet}
-use Rattle.input.proofs.Located.{points-length}
-use Rattle.input.proofs.Acceptance.{accepted-sheet}
+use lib.Seq.{sets, drop-cons}
+use Rattle.words.specs.Layout.{payloadOf, bindingWord, costWord}
+use Rattle.fields.specs.Limits.{maxValues}
+use Rattle.sheet.specs.Sheet.{Point, legCount, pointsFrom, stationsFrom, sheetFault, positionsOf, sheetSizes}
 use Rattle.sheet.specs.Made.{Leg, travel, legWords, allLegWords, legsTo, legsBetween, legsFrom}
 use Rattle.sheet.specs.Places.{pointAt}
-use Rattle.sheet.proofs.Stations.{Fit, sizeAt, stations-fit}
-use Rattle.sheet.proofs.Legs.{legs-to-length, legs-between-length}
+use Rattle.sheet.proofs.Located.{points-length}
+use Rattle.sheet.proofs.Acceptance.{accepted-sheet}
+use Rattle.sheet.proofs.Fitting.{Fit, sizeAt, stations-fit}
+use Rattle.sheet.proofs.GoodLegs.{legs-to-length, legs-between-length}
 use Rattle.sheet.proofs.Reading.{leg-words-length}
-use Rattle.sheet.proofs.Places.{FitAt, fit-at, points-next, stations-next}
+use Rattle.sheet.proofs.Walking.{FitAt, fit-at, points-next, stations-next}
 
 pub sets-append : (l : List ℕ) (i : ℕ) (xs ys : List ℕ) → sets l i (xs ++ ys) ≡ sets (sets l i xs) (i + length xs) ys
 sets-append l i [] ys = rw (add-zero i)
@@ -46,15 +46,6 @@ copy-next whole t ws o j inv h = rw (add-one j, add-one o) (rw (drop-cons ws j 0
 
 pub copy-ends : (whole t ws : List ℕ) (o j : ℕ) → whole ≡ sets t o (drop j ws) → length ws ≤ j → t ≡ whole
 copy-ends whole t ws o j inv h = sym (rw (drop-of-length-le ws {i = j} h) at inv)
-
--- ---- sizes
-
-pub sizes-next : (whole t sizes : List ℕ) (n i : ℕ) → whole ≡ sets t (i + 1) (map sizeWord (slice i n sizes)) → i < n → n ≤ length sizes
-    → whole ≡ sets (set t (i + 1) (sizeWord (getD sizes i 0))) (i + 1 + 1) (map sizeWord (slice (i + 1) n sizes))
-sizes-next whole t sizes n i inv h k = rw (add-one (i + 1), add-one i) (rw (slice-cons i n sizes 0 h k, add-one i) at inv)
-
-pub sizes-end : (whole t sizes : List ℕ) (n : ℕ) → whole ≡ sets t (n + 1) (map sizeWord (slice n n sizes)) → t ≡ whole
-sizes-end whole t sizes n inv = sym (rw (slice-empty n sizes) at inv)
 
 -- ---- one leg
 
@@ -151,20 +142,24 @@ module _ (ws : List ℕ) (i k f d e g : ℕ) (size : d ≡ payloadOf (getD ws f 
       let many : length (legsBetween i 0 ps qs) ≡ d * e = legs-between-length i 0 ps qs ∙ ap₂ (λ x y. x * y) (points-length d (drop (f + 1) ws)) (points-length e (drop (g + 1) ws)) in
       split ∙ legs-stored t o (legsBetween i 0 ps qs) rest (d * e) many ∙ rw (stored, ahead-tail, add-one i)
 
--- with one station ahead no leg is to come
-pub count-none : (ws : List ℕ) (f : ℕ) → countAhead ws 1 f ≡ 0
+-- with one station ahead, or none, no leg is to come
+pub count-none : (ws : List ℕ) (k f : ℕ) → k ≤ 1 → countAhead ws k f ≡ 0
 unfolding legCount stationsFrom
-count-none ws f = refl
+count-none ws zero f h = refl
+count-none ws (suc zero) f h = refl
+count-none ws (suc (suc k)) f h = absurd (omega arith)
 
-pub legs-end : (ws : List ℕ) (i f : ℕ) (whole t : List ℕ) (o : ℕ) → whole ≡ sets t o (allLegWords (legsAhead ws i 1 f)) → t ≡ whole
+pub legs-end : (ws : List ℕ) (i k f : ℕ) (whole t : List ℕ) (o : ℕ) → k ≤ 1 → whole ≡ sets t o (allLegWords (legsAhead ws i k f)) → t ≡ whole
 unfolding legsFrom stationsFrom allLegWords
-legs-end ws i f whole t o inv = sym inv
+legs-end ws i zero f whole t o h inv = sym inv
+legs-end ws i (suc zero) f whole t o h inv = sym inv
+legs-end ws i (suc (suc k)) f whole t o h inv = absurd (omega arith)
 
 -- ---- the walk over the stations
 
 -- of n stations i are passed, the next stands at index f, and its legs go from index o on; the last ends at `total`
 pub record Left (ws : List ℕ) (n i f o total : ℕ) : Type 0 where
-  pub going : i + 1 ≤ n
+  pub going : i ≤ n
   pub fits : Fit (n - i) (drop f ws)
   pub counted : o + 3 * countAhead ws (n - i) f ≡ total
 
@@ -173,7 +168,7 @@ unfolding sheetSizes positionsOf
 left-starts ws n at fine e =
     let a = accepted-sheet ws fine in
     let f : n - 0 ≡ sizeAt ws = omega (arith, a .head) in
-    record { going = omega (arith, a .sizes .least); fits = rw f (stations-fit ws fine); counted = rw f }
+    record { going = omega arith; fits = rw f (stations-fit ws fine); counted = rw f }
 
 pub legs-start : (ws : List ℕ) (n at : ℕ) (t : List ℕ) → sheetFault ws ≡ 0 → n ≡ length (sheetSizes ws)
     → sets t at (allLegWords (legsFrom 0 (positionsOf ws))) ≡ sets t at (allLegWords (legsAhead ws 0 (n - 0) 1))
@@ -182,9 +177,9 @@ legs-start ws n at t fine e = let f : n - 0 ≡ sizeAt ws = omega (arith, accept
 
 -- a turn: two stations stand there, of sizes d and e
 pub record Turn (ws : List ℕ) (n i f o total d g e : ℕ) : Type 0 where
-  pub first : d ≤ 8
+  pub first : d ≤ maxValues
   pub firstWhole : g ≤ length ws
-  pub second : e ≤ 8
+  pub second : e ≤ maxValues
   pub secondWhole : g + 1 + 2 * e ≤ length ws
   pub room : o + 3 * (d * e) ≤ total
   pub next : Left ws n (i + 1) g (o + 3 * (d * e)) total
@@ -199,8 +194,8 @@ module _ (ws : List ℕ) (n i f o total : ℕ) (left : Left ws n i f o total) (m
     pub second-fits : FitAt (n - (i + 2)) g ws
     second-fits = fit-at (n - (i + 2)) g ws (rw (← size, ← behind) at (first-fits .rest))
 
-    pub turn : (e : ℕ) → e ≡ payloadOf (getD ws g 0) → Turn ws n i f o total d g e
-    turn e size2 =
+    pub turn-of : (e : ℕ) → e ≡ payloadOf (getD ws g 0) → Turn ws n i f o total d g e
+    turn-of e size2 =
         let k : n - i ≡ suc (suc (n - (i + 2))) = omega (arith, left .going) in
         let k′ : n - (i + 1) ≡ suc (n - (i + 2)) = omega (arith, left .going) in
         let c : o + 3 * countAhead ws (suc (suc (n - (i + 2)))) f ≡ total = rw k at (left .counted) in
@@ -224,15 +219,10 @@ module _ (ws : List ℕ) (n i f o total : ℕ) (left : Left ws n i f o total) (m
         let k′ : n - (i + 1) ≡ suc (n - (i + 2)) = omega (arith, left .going) in
         rw k′ (legs-next ws i (n - (i + 2)) f d e g size behind size2 whole t t′ o (rw k at inv) stored)
 
--- the walk ends where one station is left
+-- the walk ends where one station is left, or none
 pub left-ends : (ws : List ℕ) (n i f o total : ℕ) → Left ws n i f o total → n ≤ i + 1 → o ≡ total
-left-ends ws n i f o total left done =
-    let k : n - i ≡ 1 = omega (arith, left .going) in
-    let c : o + 3 * countAhead ws 1 f ≡ total = rw k at (left .counted) in
-    omega (arith, count-none ws f)
+left-ends ws n i f o total left done = omega (arith, left .counted, count-none ws (n - i) f (omega arith))
 
 pub left-legs : (ws : List ℕ) (n i f o total : ℕ) → Left ws n i f o total → n ≤ i + 1 → (whole t : List ℕ)
     → whole ≡ sets t o (allLegWords (legsAhead ws i (n - i) f)) → t ≡ whole
-left-legs ws n i f o total left done whole t inv =
-    let k : n - i ≡ 1 = omega (arith, left .going) in
-    legs-end ws i f whole t o (rw k at inv)
+left-legs ws n i f o total left done whole t inv = legs-end ws i (n - i) f whole t o (omega arith) inv

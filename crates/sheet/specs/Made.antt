@@ -1,12 +1,12 @@
 -- The instance made from a sheet: one entry for each leg, then the sheet's entries.
-use Prim.Native.Nat.{ℕ, zero, suc, _+_}
+use Prim.Native.Nat.{ℕ, suc, _+_}
 use mathlib.Core.List.{List, [], _∷_, _++_, map}
-use lib.ListN.{length}
-use Rattle.words.specs.Layout.{headWord, sizeWord, bindingWord, costWord}
+use Rattle.words.specs.Layout.{bindingWord, costWord}
 use Rattle.distance.specs.Metres.{metresBetween}
-use Rattle.wcsp.specs.Entry.{Binding, Entry}
-use Rattle.input.specs.Instance.{entriesFrom}
-use Rattle.input.specs.Sheet.{Point, positionsOf, sheetSizes, entryWordsOf}
+use Rattle.wcsp.specs.Entry.{Entry}
+use Rattle.fields.specs.Front.{frontWords}
+use Rattle.fields.specs.Entries.{entriesFrom}
+use Rattle.sheet.specs.Sheet.{Point, positionsOf, sheetSizes, entryWordsOf}
 
 -- the cost of going on from one position to another (document 01: a leg's cost): whole metres
 abbrev pub travel : Point → Point → ℕ
@@ -57,8 +57,7 @@ allLegWords (l ∷ ls) = legWords l ++ allLegWords ls
 unfoldable pub madeWords : List ℕ → List ℕ
 unfolding legsFrom allLegWords
 madeWords sheet =
-    headWord (length (positionsOf sheet))
-    ∷ (map sizeWord (sheetSizes sheet) ++ (allLegWords (legsFrom 0 (positionsOf sheet)) ++ entryWordsOf sheet))
+    frontWords (sheetSizes sheet) ++ (allLegWords (legsFrom 0 (positionsOf sheet)) ++ entryWordsOf sheet)
 
 -- its entries
 unfoldable pub madeEntries : List ℕ → List Entry

@@ -2,7 +2,7 @@
 use Prim.Native.Nat.{ℕ, _+_}
 use mathlib.Core.List.{List}
 use lib.ListN.{getD}
-use Rattle.input.specs.Sheet.{Point, offsetOf}
+use Rattle.sheet.specs.Sheet.{Point, eastingKind, northingKind, offsetOf}
 use Rattle.sheet.specs.declared.Place.{Place}
 
 abbrev pub pointOf : Place → Point
@@ -10,4 +10,4 @@ pointOf p = record { easting = p .easting; northing = p .northing }
 
 -- the position whose easting is the word at this index
 abbrev pub pointAt : List ℕ → ℕ → Point
-pointAt ws at = record { easting = offsetOf (getD ws at 0); northing = offsetOf (getD ws (at + 1) 0) }
+pointAt ws at = record { easting = offsetOf eastingKind (getD ws at 0); northing = offsetOf northingKind (getD ws (at + 1) 0) }

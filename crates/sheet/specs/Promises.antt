@@ -4,7 +4,7 @@ use mathlib.Core.Path.{_≡_}
 use mathlib.Core.List.{List}
 use lib.ListN.{length}
 use Rattle.input.specs.Instance.{instanceFault, sizesOf, entriesOf}
-use Rattle.input.specs.Sheet.{legCount, sheetFault, sheetSizes, entryWordsOf}
+use Rattle.sheet.specs.Sheet.{legCount, sheetFault, sheetSizes, entryWordsOf}
 use Rattle.sheet.specs.Made.{madeWords, madeEntries}
 
 -- the instance is accepted, has the sheet's sizes, and its entries are the legs and then the sheet's; a leg takes three words

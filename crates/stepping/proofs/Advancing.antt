@@ -2,12 +2,10 @@
 use Prim.Native.Nat.{ℕ, _+_, _-_, _*_, _<_, _≤_}
 use native.Mathlib.Omega.{arith}
 use mathlib.Core.Path.{_≡_, refl, sym, ap, ap₂, _∙_}
-use mathlib.Core.Bool.{Bool, true, false, cond}
+use mathlib.Core.Bool.{true, false}
 use mathlib.Core.List.{List, [], _++_, map}
 use lib.ListN.{length, getD, take, set, length-map}
 use lib.Seq.{take-all}
-use lib.Dec.{ltb}
-use borrow.Author.Tests.{ltb-false}
 use Rattle.wcsp.specs.Clause.{kept}
 use Rattle.wcsp.specs.Row.{Row}
 use Rattle.wcsp.specs.Resolve.{Pair, noRow, lessen, movedWeight, conclusionsOf, resolve, Permitted}
@@ -15,74 +13,66 @@ use Rattle.wcsp.specs.Theorems.{Distinct}
 use Rattle.wcsp.proofs.Linear.{lessen-below, lessen-keeps}
 use Rattle.wcsp.proofs.Adding.{raised, fresh}
 use Rattle.wcsp.proofs.Raising.{raised-length, raised-other}
-use Rattle.wcsp.proofs.AsWritten.{outcome, lessened, resolve-as-written, gone, removed, written-length}
+use Rattle.wcsp.proofs.AsWritten.{outcome, resolve-as-written, gone, removed, written-length}
 use Rattle.wcsp.proofs.TooHeavy.{heavyAny, heavy-at}
 use Rattle.wcsp.proofs.TooHeavy as Weighing
 use Rattle.words.specs.Layout.{countWord}
 use Rattle.conclusions.specs.Buffer.{clausesIn, PackedBuffer}
 use Rattle.conclusions.proofs.Filling.{clausesIn-length}
-use Rattle.rows.specs.Raw.{rawsIn, Laid, Left}
+use Rattle.rows.specs.Raw.{rowWidth, maxWeight, rawsIn, Laid, Left}
 use Rattle.rows.proofs.Laying.{left-read, left-laid, left-trans}
-use Rattle.table.specs.Layout.{capacity, tableWords, tooHeavy}
+use Rattle.table.specs.Layout.{maxRows, capacityIn, capacity, tableWords, tooHeavy}
 use Rattle.table.specs.Meaning.{variablesOf, tableSizes, tableRows, domains}
 use Rattle.table.specs.Valid.{validTable}
 use Rattle.table.specs.Check.{capacityOf}
 use Rattle.table.specs.Raws.{rawOf}
 use Rattle.table.proofs.Twelve.{Twelve}
+use Rattle.table.proofs.RawRows.{weight-raws}
 use Rattle.table.proofs.Canonical.{room-rows}
 use Rattle.table.proofs.Finishing.{finished-valid}
+use Rattle.table.proofs.Reading.{Ready}
 use Rattle.stepping.specs.declared.Advanced.the-variants.{Made, Refused}
-use Rattle.stepping.specs.Step.{refusing, stepping, allowed}
+use Rattle.stepping.specs.Step.{Stepping, finished, refusing, stepping, allowed, refusalOf}
 use Rattle.stepping.specs.Advance.{usedUp, advanceReturns, advanceCall}
-use Rattle.stepping.specs.Turns.{weightAt, heavyTo, Placed, raisedTo, takenFrom, appendedTo, verdict, Planned}
-use Rattle.stepping.proofs.Agreement.{weight-rows, taken-rows, heavy-agrees, raised-agrees, raised-light, appended-agrees}
-use Rattle.stepping.proofs.Surveying.{heavy-is, Ready, twelve-at}
+use Rattle.stepping.specs.Turns.{weightAt, heavyTo, Placed, raisedTo, takenFrom, appendedTo, Planned}
+use Rattle.stepping.proofs.Agreement.{taken-rows, heavy-agrees, raised-agrees, raised-light, appended-agrees}
+use Rattle.stepping.proofs.Surveying.{twelve-at}
+use Rattle.stepping.proofs.Verdicts.{Verdict, refused as refusedBy, made, verdict}
 
 -- ---- refused or allowed
 
-refused-call : (t : List ℕ) (pr : Pair) (rs : List Row) (old cap number : ℕ) → number ≡ verdict cap rs → (number ≡ 0 → ⊥)
-    → (Refused number ≡ advanceReturns t old (allowed cap pr rs) .answer) × (t ≡ advanceReturns t old (allowed cap pr rs) .table)
-unfolding verdict allowed advanceReturns
-refused-call t pr rs old cap number e n = go (tooHeavy rs) (ltb cap (length rs)) e
-  where
-    go : (a b : Bool) → number ≡ cond a 11 (cond b 12 0)
-        → (Refused number ≡ advanceReturns t old (cond a (refusing 11) (cond b (refusing 12) (stepping pr rs))) .answer)
-        × (t ≡ advanceReturns t old (cond a (refusing 11) (cond b (refusing 12) (stepping pr rs))) .table)
-    go true b h = (ap Refused h, refl)
-    go false true h = (ap Refused h, refl)
-    go false false h = absurd (n h)
+refused-call : (t : List ℕ) (old number : ℕ) (s : Stepping) → number ≡ refusalOf s → (number ≡ 0 → ⊥)
+    → (Refused number ≡ advanceReturns t old s .answer) × (t ≡ advanceReturns t old s .table)
+unfolding refusalOf advanceReturns
+refused-call t old number finished e n = absurd (n e)
+refused-call t old number (refusing k) e n = (ap Refused e, refl)
+refused-call t old number (stepping pr rs) e n = absurd (n e)
 
 pub refused : {t : List ℕ} {pr : Pair} {buffer places : List ℕ} {kept′ moved number : ℕ} → Planned t pr buffer places kept′ moved number → (number ≡ 0 → ⊥)
     → (Refused number ≡ advanceCall t pr .answer) × (t ≡ advanceCall t pr .table)
 unfolding advanceCall
 refused {t} {pr} {number = number} q n =
-    refused-call t pr (resolve (domains t) pr (tableRows t)) _ (capacityOf t) number (q .result) n
+    refused-call t _ number (allowed (capacityOf t) pr (resolve (domains t) pr (tableRows t))) (q .result) n
 
 pub planned-zero : {t : List ℕ} {pr : Pair} {buffer places : List ℕ} {kept′ moved number : ℕ} → Planned t pr buffer places kept′ moved number → number ≡ 0
     → Planned t pr buffer places kept′ moved 0
 planned-zero q e = rw e at q
 
-made-call : (t : List ℕ) (pr : Pair) (rs : List Row) (old most : ℕ) → 0 ≡ verdict most rs
+-- a step that is not refused is made, and its rows are light enough and fit
+cleared : (most : ℕ) (pr : Pair) (rs : List Row) → 0 ≡ refusalOf (allowed most pr rs)
+    → (allowed most pr rs ≡ stepping pr rs) × (tooHeavy rs ≡ false) × (length rs ≤ most)
+unfolding refusalOf
+cleared most pr rs e = go (allowed most pr rs) (verdict most pr rs) e
+  where
+    go : (s : Stepping) → Verdict most pr rs s → 0 ≡ refusalOf s → (s ≡ stepping pr rs) × (tooHeavy rs ≡ false) × (length rs ≤ most)
+    go (refusing k) (refusedBy m n) e = absurd (omega arith)
+    go (stepping x y) (made h l) e = (refl, h, l)
+
+made-call : (t : List ℕ) (pr : Pair) (rs : List Row) (old most : ℕ) → 0 ≡ refusalOf (allowed most pr rs)
     → (Made (length rs) old ≡ advanceReturns t old (allowed most pr rs) .answer)
     × (tableWords (length t) (tableSizes t) rs ≡ advanceReturns t old (allowed most pr rs) .table)
-unfolding verdict allowed advanceReturns
-made-call t pr rs old most e = go (tooHeavy rs) (ltb most (length rs)) e
-  where
-    go : (a b : Bool) → _≡_ {A = ℕ} 0 (cond a 11 (cond b 12 0))
-        → (Made (length rs) old ≡ advanceReturns t old (cond a (refusing 11) (cond b (refusing 12) (stepping pr rs))) .answer)
-        × (tableWords (length t) (tableSizes t) rs ≡ advanceReturns t old (cond a (refusing 11) (cond b (refusing 12) (stepping pr rs))) .table)
-    go true b h = absurd (omega arith)
-    go false true h = absurd (omega arith)
-    go false false h = (refl, refl)
-
-cleared : (most : ℕ) (rs : List Row) → 0 ≡ verdict most rs → (tooHeavy rs ≡ false) × (length rs ≤ most)
-unfolding verdict
-cleared most rs e = go (tooHeavy rs) (ltb most (length rs)) refl refl e
-  where
-    go : (a b : Bool) → tooHeavy rs ≡ a → ltb most (length rs) ≡ b → _≡_ {A = ℕ} 0 (cond a 11 (cond b 12 0)) → (tooHeavy rs ≡ false) × (length rs ≤ most)
-    go true b f g h = absurd (omega arith)
-    go false true f g h = absurd (omega arith)
-    go false false f g h = (f, ltb-false most (length rs) g)
+unfolding advanceReturns
+made-call t pr rs old most e = rw (cleared most pr rs e .0) (refl, refl)
 
 -- ---- the rows after each write
 
@@ -128,13 +118,12 @@ module _ (t : List ℕ) (n count : ℕ) (r : Ready t n count) (pr : Pair) (p : P
       let l = long in
       rw l
       (heavy-agrees (r .valid) (r .carried) count (r .long) (clausesIn kept′ buffer) twelve (movedWeight pr (tableRows t)) kept′ (omega arith)
-      ∙ ap (λ cs. heavyAny 268435455 (movedWeight pr (tableRows t)) cs (tableRows t)) whole
-      ∙ sym (Weighing.tooHeavy 268435455 (r .valid) p (r .light))
-      ∙ sym (heavy-is (endRows t pr))
-      ∙ cleared (capacityOf t) (endRows t pr) (q .result) .0)
+      ∙ ap (λ cs. heavyAny maxWeight (movedWeight pr (tableRows t)) cs (tableRows t)) whole
+      ∙ sym (Weighing.tooHeavy maxWeight (r .valid) p (r .light))
+      ∙ cleared (capacityOf t) pr (endRows t pr) (q .result) .1)
 
   pub raise-asks : Laid t (n + 2) (rawsIn t (n + 2) count) × (kept′ ≤ 26)
-      × ((m : ℕ) → m < kept′ → weightAt (raisedTo moved places (rawsIn t (n + 2) count) m) (getD places m 0) + moved ≤ 268435455)
+      × ((m : ℕ) → m < kept′ → weightAt (raisedTo moved places (rawsIn t (n + 2) count) m) (getD places m 0) + moved ≤ maxWeight)
   raise-asks =
       let l = long in (
         r .laid,
@@ -163,8 +152,8 @@ module _ (t : List ℕ) (n count : ℕ) (r : Ready t n count) (pr : Pair) (p : P
   unfolding movedWeight
   moved-first = omega (arith, q .weight)
 
-  weight-small : (k : ℕ) → getD (tableRows t) k noRow .weight ≤ 268435455
-  weight-small k = heavy-at 268435455 (tableRows t) k (r .light)
+  weight-small : (k : ℕ) → getD (tableRows t) k noRow .weight ≤ maxWeight
+  weight-small k = heavy-at maxWeight (tableRows t) k (r .light)
 
   module _ (t₁ : List ℕ) (l₁ : Left t (n + 2) t₁ (raisedTo moved places (rawsIn t (n + 2) count) kept′)) where
     up-is : raisedTo moved places (rawsIn t (n + 2) count) kept′ ≡ map rawOf (upRows t pr)
@@ -187,7 +176,7 @@ module _ (t : List ℕ) (n count : ℕ) (r : Ready t n count) (pr : Pair) (p : P
     lessen-asks =
         let w = up-second in
         let m = weight-small (pr .second) in
-        let e = weight-rows (upRows t pr) (pr .second) (omega arith) in
+        let e = weight-raws (upRows t pr) (pr .second) (omega arith) in
         let h = moved-second in
         (left-laid count up-long up-left, second-in, rw up-read (omega arith))
 
@@ -226,7 +215,7 @@ module _ (t : List ℕ) (n count : ℕ) (r : Ready t n count) (pr : Pair) (p : P
       lessen-asks-first =
           let w = one-first in
           let m = weight-small (pr .first) in
-          let e = weight-rows (oneRows t pr) (pr .first) (omega arith) in
+          let e = weight-raws (oneRows t pr) (pr .first) (omega arith) in
           let h = moved-first in
           (left-laid fewer one-long one-left, rw one-count first-in, rw one-read (omega arith))
 
@@ -259,13 +248,13 @@ module _ (t : List ℕ) (n count : ℕ) (r : Ready t n count) (pr : Pair) (p : P
             ∙ ap (λ xs. map rawOf xs) (sym (resolve-as-written (r .valid) p))
 
         end-fits : length (endRows t pr) ≤ capacity (length t) n
-        end-fits = rw (r .variables) (cleared (capacityOf t) (endRows t pr) (q .result) .1)
+        end-fits = rw (r .variables) (cleared (capacityOf t) pr (endRows t pr) (q .result) .2)
 
-        end-room : n + 2 + 5 * length (endRows t pr) ≤ length t
+        end-room : n + 2 + rowWidth * length (endRows t pr) ≤ length t
         end-room = let h = r .room in room-rows (length t) n (length (endRows t pr)) (omega arith) end-fits
 
-        pub append-asks : Laid t₃ (n + 2) (rawsIn t₃ (n + 2) old) × (kept′ ≤ 26) × (moved ≤ 268435455) × PackedBuffer buffer
-            × (n + 2 + 5 * length (appendedTo moved count places (clausesIn kept′ buffer) (rawsIn t₃ (n + 2) old) kept′) ≤ length t₃)
+        pub append-asks : Laid t₃ (n + 2) (rawsIn t₃ (n + 2) old) × (kept′ ≤ 26) × (moved ≤ maxWeight) × PackedBuffer buffer
+            × (n + 2 + rowWidth * length (appendedTo moved count places (clausesIn kept′ buffer) (rawsIn t₃ (n + 2) old) kept′) ≤ length t₃)
         append-asks =
             let h = moved-first in
             let m = weight-small (pr .first) in
@@ -281,8 +270,8 @@ module _ (t : List ℕ) (n count : ℕ) (r : Ready t n count) (pr : Pair) (p : P
           end-count = l₄ .1 ∙ ap length end-is ∙ length-map (endRows t pr) rawOf
 
           -- the number of rows, and the slice's length, for the count word
-          pub end-bounds : (now ≤ 4096) × (length t₄ ≡ length t) × (n + 2 ≤ length t) × (n ≤ 12)
-          unfolding capacity
+          pub end-bounds : (now ≤ maxRows) × (length t₄ ≡ length t) × (n + 2 ≤ length t) × (n ≤ 12)
+          unfolding capacityIn
           end-bounds =
               let c = end-count in
               let f = end-fits in

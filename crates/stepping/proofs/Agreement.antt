@@ -3,8 +3,8 @@ use Prim.Native.Nat.{ℕ, zero, suc, _+_, _-_, _<_, _≤_}
 use native.Mathlib.Omega.{arith}
 use mathlib.Core.Path.{_≡_, refl, sym, ap, ap₂, _∙_}
 use mathlib.Core.Bool.{Bool, true, false, _||_, cond}
-use mathlib.Core.List.{List, [], _∷_, _++_, map, append-nil, append-assoc}
-use lib.ListN.{length, getD, take, length-append, length-map}
+use mathlib.Core.List.{List, [], _∷_, _++_, map, map-append, append-nil, append-assoc}
+use lib.ListN.{length, getD, take, length-append, length-map, List·getD-eq-default}
 use lib.Seq.{take-suc}
 use lib.Dec.{eqb, ltb}
 use borrow.Author.Tests.{eqb-true, eqb-false, eq-eqb, ne-eqb, ltb-false}
@@ -17,45 +17,29 @@ use Rattle.wcsp.proofs.EmptyRow.{weightOf-absent}
 use Rattle.wcsp.proofs.Adding.{member, raised, fresh, single, raised-nil}
 use Rattle.wcsp.proofs.Raising.{setWeight, raised-length, raised-other, raised-more, raised-more-absent, fresh-more-absent, fresh-more-at}
 use Rattle.wcsp.proofs.TooHeavy.{heavyAny, heavyAny-more, weightOf-at}
-use Rattle.words.specs.Layout.{weightWord}
 use Rattle.clause.specs.Packed.{signsOf}
 use Rattle.rows.specs.declared.Found.{Found}
 use Rattle.rows.specs.declared.Found.the-variants.{At, Missing}
-use Rattle.rows.specs.Raw.{Raw, rawRow, findFrom, reweighed, without}
-use Rattle.table.specs.Check.{clauseFrom}
+use Rattle.rows.specs.Raw.{maxWeight, Raw, rawRow, findFrom, reweighed, without}
+use Rattle.rows.proofs.Changes.{reweighed-past}
+use Rattle.table.specs.Clauses.{clauseFrom}
 use Rattle.table.specs.Raws.{rawOf}
 use Rattle.table.proofs.Twelve.{Twelve, signs-clauseFrom}
-use Rattle.table.proofs.RawRows.{AllCarried, nilCarried, consCarried}
+use Rattle.table.proofs.Carried.{AllCarried, carried-weight}
+use Rattle.table.proofs.RawRows.{weight-raws}
 use Rattle.table.proofs.Finding.{found-at, found-missing}
 use Rattle.stepping.specs.Turns.{weightAt, placeOf, placeIn, freshTo, heavyTo, Placed, raisedTo, takenFrom, appendedTo}
-use Rattle.stepping.proofs.Writes.{reweighed-past}
 
 -- ---- rows and the raw rows that carry them
 
-pub weight-rows : (rs : List Row) (k : ℕ) → getD rs k noRow .weight < 268435456 → weightAt (map rawOf rs) k ≡ getD rs k noRow .weight
-weight-rows [] k h = refl
-weight-rows (r ∷ rs) zero h = omega arith
-weight-rows (r ∷ rs) (suc k) h = weight-rows rs k h
-
-reweighed-rows : (rs : List Row) (k w : ℕ) → reweighed (map rawOf rs) k (weightWord w) ≡ map rawOf (setWeight rs k w)
+reweighed-rows : (rs : List Row) (k w : ℕ) → reweighed (map rawOf rs) k w ≡ map rawOf (setWeight rs k w)
 unfolding reweighed setWeight
 reweighed-rows [] k w = refl
 reweighed-rows (r ∷ rs) zero w = refl
 reweighed-rows (r ∷ rs) (suc k) w = ap (λ qs. rawOf r ∷ qs) (reweighed-rows rs k w)
 
-map-append : (rs ts : List Row) → map rawOf (rs ++ ts) ≡ map rawOf rs ++ map rawOf ts
-map-append [] ts = refl
-map-append (r ∷ rs) ts = ap (λ qs. rawOf r ∷ qs) (map-append rs ts)
-
-carried-light : {rs : List Row} → AllCarried rs → (k : ℕ) → getD rs k noRow .weight < 268435456
-carried-light nilCarried k = omega arith
-carried-light (consCarried h t) zero = h .light
-carried-light (consCarried h t) (suc k) = carried-light t k
-
 weight-past : (rs : List Row) (k : ℕ) → length rs ≤ k → getD rs k noRow .weight ≡ 0
-weight-past [] k h = refl
-weight-past (r ∷ rs) zero h = absurd (omega arith)
-weight-past (r ∷ rs) (suc k) h = weight-past rs k (omega arith)
+weight-past rs k h = ap (λ (r : Row). r .weight) (List·getD-eq-default rs noRow h)
 
 taken-whole : (u k : ℕ) (rs : List Row) → k < length rs → getD rs k noRow .weight ≡ u → without (map rawOf rs) k ≡ map rawOf (lessen u k rs)
 unfolding without lessen
@@ -64,19 +48,19 @@ taken-whole u zero (r ∷ rs) h e = let z : r .weight - u ≡ 0 = omega arith in
 taken-whole u (suc k) (r ∷ rs) h e = ap (λ qs. rawOf r ∷ qs) (taken-whole u k rs (omega arith) e)
 
 taken-part : (u k : ℕ) (rs : List Row) → k < length rs → u < getD rs k noRow .weight
-    → reweighed (map rawOf rs) k (weightWord (getD rs k noRow .weight - u)) ≡ map rawOf (lessen u k rs)
+    → reweighed (map rawOf rs) k (getD rs k noRow .weight - u) ≡ map rawOf (lessen u k rs)
 unfolding reweighed lessen
 taken-part u k [] h e = absurd (omega arith)
 taken-part u zero (r ∷ rs) h e = let z : r .weight - u ≡ 0 → ⊥ = λ q. omega arith in rw (ne-eqb (r .weight - u) 0 z)
 taken-part u (suc k) (r ∷ rs) h e = ap (λ qs. rawOf r ∷ qs) (taken-part u k rs (omega arith) e)
 
-pub taken-rows : (u k : ℕ) (rs : List Row) → k < length rs → u ≤ getD rs k noRow .weight → getD rs k noRow .weight < 268435456
+pub taken-rows : (u k : ℕ) (rs : List Row) → k < length rs → u ≤ getD rs k noRow .weight → getD rs k noRow .weight ≤ maxWeight
     → takenFrom u k (map rawOf rs) ≡ map rawOf (lessen u k rs)
 unfolding takenFrom
-taken-rows u k rs h l m = rw (weight-rows rs k m) (go (eqb (getD rs k noRow .weight) u) refl)
+taken-rows u k rs h l m = rw (weight-raws rs k m) (go (eqb (getD rs k noRow .weight) u) refl)
   where
     go : (b : Bool) → eqb (getD rs k noRow .weight) u ≡ b
-        → cond b (without (map rawOf rs) k) (reweighed (map rawOf rs) k (weightWord (getD rs k noRow .weight - u))) ≡ map rawOf (lessen u k rs)
+        → cond b (without (map rawOf rs) k) (reweighed (map rawOf rs) k (getD rs k noRow .weight - u)) ≡ map rawOf (lessen u k rs)
     go true e = taken-whole u k rs h (eqb-true (getD rs k noRow .weight) u e)
     go false e = let z = eqb-false (getD rs k noRow .weight) u e in taken-part u k rs h (omega arith)
 
@@ -113,13 +97,13 @@ member-before (consDistinct {c = c} {cs = cs} a d) (suc m) h = rw (apart-other a
 -- ---- turn by turn
 
 light-at : (u n : ℕ) (qs : List Raw) (cs : List (List ℕ)) (k : ℕ) → heavyTo u n qs cs k ≡ false → (m : ℕ) → m < k
-    → ltb 268435455 (weightAt qs (placeIn n qs (getD cs m [])) + u) ≡ false
+    → ltb maxWeight (weightAt qs (placeIn n qs (getD cs m [])) + u) ≡ false
 unfolding heavyTo
 light-at u n qs cs zero e m h = absurd (omega arith)
 light-at u n qs cs (suc k) e m h = go (eqb m k) refl (light-at u n qs cs k (or-left (heavyTo u n qs cs k) _ e) m)
   where
-    go : (b : Bool) → eqb m k ≡ b → (m < k → ltb 268435455 (weightAt qs (placeIn n qs (getD cs m [])) + u) ≡ false)
-        → ltb 268435455 (weightAt qs (placeIn n qs (getD cs m [])) + u) ≡ false
+    go : (b : Bool) → eqb m k ≡ b → (m < k → ltb maxWeight (weightAt qs (placeIn n qs (getD cs m [])) + u) ≡ false)
+        → ltb maxWeight (weightAt qs (placeIn n qs (getD cs m [])) + u) ≡ false
     go true q ih = let z = eqb-true m k q in rw z (or-right (heavyTo u n qs cs k) _ e)
     go false q ih = let z = eqb-false m k q in ih (omega arith)
 
@@ -146,18 +130,18 @@ module _ {ds : List ℕ} {rs : List Row} (v : ValidRows ds rs) (a : AllCarried r
           rw (fresh-more-absent u (take m cs) b, eq-eqb (place m) n (e ∙ count)) (sym (length-append (fresh u (take m cs) rs) _))
 
   place-weight : (m : ℕ) → m < length cs → weightAt (map rawOf rs) (place m) ≡ weightOf (getD cs m []) rs
-  place-weight m h = weight-rows rs (place m) (carried-light a (place m)) ∙ go (placed-at m h)
+  place-weight m h = weight-raws rs (place m) (carried-weight a (place m)) ∙ go (placed-at m h)
     where
       go : Place (getD cs m []) rs (place m) → getD rs (place m) noRow .weight ≡ weightOf (getD cs m []) rs
       go (here l e) = sym (weightOf-at (place m) (getD cs m []) (single v) l e)
       go (nowhere e b) = weight-past rs (place m) (omega arith) ∙ sym (weightOf-absent (getD cs m []) b)
 
-  pub heavy-agrees : (u m : ℕ) → m ≤ length cs → heavyTo u n (map rawOf rs) cs m ≡ heavyAny 268435455 u (take m cs) rs
+  pub heavy-agrees : (u m : ℕ) → m ≤ length cs → heavyTo u n (map rawOf rs) cs m ≡ heavyAny maxWeight u (take m cs) rs
   unfolding heavyTo heavyAny place
   heavy-agrees u zero h = refl
   heavy-agrees u (suc m) h =
-      ap₂ (λ b w. b || ltb 268435455 (w + u)) (heavy-agrees u m (omega arith)) (place-weight m h)
-      ∙ sym (ap (λ l. heavyAny 268435455 u l rs) (take-suc cs m [] h) ∙ heavyAny-more 268435455 u (take m cs) (getD cs m []) rs)
+      ap₂ (λ b w. b || ltb maxWeight (w + u)) (heavy-agrees u m (omega arith)) (place-weight m h)
+      ∙ sym (ap (λ l. heavyAny maxWeight u l rs) (take-suc cs m [] h) ∙ heavyAny-more maxWeight u (take m cs) (getD cs m []) rs)
 
   module _ (places : List ℕ) (p : Placed n (map rawOf rs) cs (length cs) places) where
     noted-at : (m : ℕ) → m < length cs → Place (getD cs m []) rs (getD places m 0)
@@ -179,8 +163,8 @@ module _ {ds : List ℕ} {rs : List Row} (v : ValidRows ds rs) (a : AllCarried r
       weight-stays : (m : ℕ) → m < length cs → weightAt (map rawOf (raised u (take m cs) rs)) (getD places m 0) ≡ getD rs (getD places m 0) noRow .weight
       weight-stays m h =
           let e = stays m h in
-          let l = carried-light a (getD places m 0) in
-          weight-rows (raised u (take m cs) rs) (getD places m 0) (omega arith) ∙ e
+          let l = carried-weight a (getD places m 0) in
+          weight-raws (raised u (take m cs) rs) (getD places m 0) (omega arith) ∙ e
 
       pub raised-agrees : (m : ℕ) → m ≤ length cs → raisedTo u places (map rawOf rs) m ≡ map rawOf (raised u (take m cs) rs)
       unfolding raisedTo
@@ -188,7 +172,7 @@ module _ {ds : List ℕ} {rs : List Row} (v : ValidRows ds rs) (a : AllCarried r
       raised-agrees (suc m) h = rw (raised-agrees m (omega arith), weight-stays m h, take-suc cs m [] h) (go (noted-at m h))
         where
           go : Place (getD cs m []) rs (getD places m 0)
-              → reweighed (map rawOf (raised u (take m cs) rs)) (getD places m 0) (weightWord (getD rs (getD places m 0) noRow .weight + u))
+              → reweighed (map rawOf (raised u (take m cs) rs)) (getD places m 0) (getD rs (getD places m 0) noRow .weight + u)
               ≡ map rawOf (raised u (take m cs ++ (getD cs m [] ∷ [])) rs)
           go (here l e) =
               reweighed-rows (raised u (take m cs) rs) (getD places m 0) (getD rs (getD places m 0) noRow .weight + u)
@@ -200,14 +184,14 @@ module _ {ds : List ℕ} {rs : List Row} (v : ValidRows ds rs) (a : AllCarried r
 
       -- a row that does not pass the limit when it is looked at does not pass it when it is raised
       pub raised-light : heavyTo u n (map rawOf rs) cs (length cs) ≡ false → (m : ℕ) → m < length cs
-          → weightAt (raisedTo u places (map rawOf rs) m) (getD places m 0) + u ≤ 268435455
+          → weightAt (raisedTo u places (map rawOf rs) m) (getD places m 0) + u ≤ maxWeight
       unfolding place
       raised-light e m h =
           let w = ap (λ qs. weightAt qs (getD places m 0)) (raised-agrees m (omega arith)) ∙ weight-stays m h in
           let k : getD places m 0 ≡ place m = p m h in
-          let l = weight-rows rs (getD places m 0) (carried-light a (getD places m 0)) in
+          let l = weight-raws rs (getD places m 0) (carried-weight a (getD places m 0)) in
           let f = ap (λ i. weightAt (map rawOf rs) i) k in
-          omega (arith, ltb-false 268435455 (weightAt (map rawOf rs) (place m) + u) (light-at u n (map rawOf rs) cs (length cs) e m h))
+          omega (arith, ltb-false maxWeight (weightAt (map rawOf rs) (place m) + u) (light-at u n (map rawOf rs) cs (length cs) e m h))
 
     pub appended-agrees : (u m : ℕ) (ts : List Row) → m ≤ length cs → appendedTo u n places cs (map rawOf ts) m ≡ map rawOf (ts ++ fresh u (take m cs) rs)
     unfolding appendedTo fresh
@@ -221,4 +205,4 @@ module _ {ds : List ℕ} {rs : List Row} (v : ValidRows ds rs) (a : AllCarried r
             let z : getD places m 0 ≡ n → ⊥ = λ q. omega arith in
             rw (fresh-more-at u (take m cs) (getD cs m []) rs (getD places m 0) l e, ne-eqb (getD places m 0) n z) (append-nil _)
         go (nowhere e b) =
-            rw (fresh-more-absent u (take m cs) b, eq-eqb (getD places m 0) n (e ∙ count), ← append-assoc) (sym (map-append (ts ++ fresh u (take m cs) rs) _))
+            rw (fresh-more-absent u (take m cs) b, eq-eqb (getD places m 0) n (e ∙ count), ← append-assoc) (sym (map-append rawOf (ts ++ fresh u (take m cs) rs) _))

@@ -1,47 +1,36 @@
 -- The look, clause by clause: where a clause's row stands, what one turn of the loop notes, and what is noted in the end.
-use Prim.Native.Nat.{ℕ, zero, suc, _+_, _*_, _%_, _<_, _≤_}
+use Prim.Native.Nat.{ℕ, _+_, _*_, _<_, _≤_}
 use native.Mathlib.Omega.{arith}
 use native.Mathlib.Numerals.{add-one}
 use mathlib.Core.Path.{_≡_, refl, sym, ap, ap₂, _∙_}
 use mathlib.Core.Bool.{Bool, true, false, _||_, cond, or-true, or-false}
-use mathlib.Core.List.{List, [], _∷_}
-use lib.ListN.{length, getD, drop, set, length-set}
+use mathlib.Core.List.{List, []}
+use lib.ListN.{length, getD, drop, set, length-set, List·getD-eq-default}
 use lib.Seq.{getD-set-same, getD-set-other}
 use lib.Dec.{eqb, ltb}
 use borrow.Author.Tests.{eqb-true, eqb-false, eq-eqb, ne-eqb, le-ltb}
 use Rattle.clause.specs.declared.Clause.{Clause}
-use Rattle.clause.specs.Packed.{signsOf, Packed, Holds}
-use Rattle.clause.proofs.Signs12.{same-blocks}
+use Rattle.clause.specs.Packed.{signsOf, Holds}
 use Rattle.conclusions.specs.Buffer.{clausesIn}
 use Rattle.conclusions.proofs.Filling.{clausesIn-same-at}
 use Rattle.rows.specs.declared.Found.{Found}
 use Rattle.rows.specs.declared.Found.the-variants.{At, Missing}
-use Rattle.rows.specs.Raw.{Raw, noRaw, rawAt, rawsIn, rawRow, findFrom}
+use Rattle.rows.specs.Raw.{rowWidth, maxWeight, Raw, noRaw, rawAt, rawsIn, weightIn, rawRow, findFrom}
 use Rattle.rows.proofs.Flat.{length-rawsFrom, raw-at}
+use Rattle.rows.proofs.RowWords.{weight-none}
 use Rattle.rows.proofs.Searching.{find-at}
-use Rattle.table.specs.Check.{clauseFrom}
-use Rattle.table.proofs.Twelve.{signs-clauseFrom, twelve-signsOf}
+use Rattle.table.proofs.Twelve.{clauseFrom-signs}
 use Rattle.stepping.specs.Turns.{weightAt, placeOf, placeIn, freshTo, heavyTo, Placed}
-
--- ---- raw rows past the last
-
-past-last : (qs : List Raw) (k : ℕ) → length qs ≤ k → getD qs k noRaw ≡ noRaw
-past-last [] k h = refl
-past-last (q ∷ qs) zero h = absurd (omega arith)
-past-last (q ∷ qs) (suc k) h = past-last qs k (omega arith)
-
--- the weight that is read from the words
-pub weight-read : (t : List ℕ) (base count k w : ℕ) → k < count → w ≡ rawAt t (base + 5 * k) .w % 268435456 → w ≡ weightAt (rawsIn t base count) k
-weight-read t base count k w h e = e ∙ ap (λ r. r .w % 268435456) (sym (raw-at t base count k h))
 
 -- ---- one look
 
-pub packed-back : (x : Clause) → Packed x → clauseFrom (signsOf x) ≡ x
-packed-back x p = same-blocks (clauseFrom (signsOf x)) x (signs-clauseFrom (signsOf x) (twelve-signsOf x p))
+-- the weight that is read from the words
+pub weight-read : (t : List ℕ) (base count k w : ℕ) → k < count → w ≡ weightIn (rawAt t (base + rowWidth * k)) → w ≡ weightAt (rawsIn t base count) k
+weight-read t base count k w h e = e ∙ ap weightIn (sym (raw-at t base count k h))
 
-module _ (t : List ℕ) (base count : ℕ) (x : Clause) (p : Packed x) where
+module _ (t : List ℕ) (base count : ℕ) (x : Clause) where
   place-is : placeIn count (rawsIn t base count) (signsOf x) ≡ placeOf count (findFrom (rawRow x 0) 0 (rawsIn t base count))
-  place-is = ap (λ y. placeOf count (findFrom (rawRow y 0) 0 (rawsIn t base count))) (packed-back x p)
+  place-is = ap (λ y. placeOf count (findFrom (rawRow y 0) 0 (rawsIn t base count))) (clauseFrom-signs x)
 
   pub place-found : (k : ℕ) (f : Found) → f ≡ findFrom (rawRow x 0) 0 (rawsIn t base count) → f ≡ At k
       → (k ≡ placeIn count (rawsIn t base count) (signsOf x)) × (k ≤ count)
@@ -55,15 +44,15 @@ module _ (t : List ℕ) (base count : ℕ) (x : Clause) (p : Packed x) where
   unfolding placeOf
   place-none f e g = (sym (place-is ∙ ap (λ o. placeOf count o) (sym e ∙ g)), omega arith)
 
-pub passes-not : (t : List ℕ) (base count k u : ℕ) → k ≡ count → u ≤ 268435455 → false ≡ ltb 268435455 (weightAt (rawsIn t base count) k + u)
+pub passes-not : (t : List ℕ) (base count k u : ℕ) → k ≡ count → u ≤ maxWeight → false ≡ ltb maxWeight (weightAt (rawsIn t base count) k + u)
 passes-not t base count k u e h =
     let n = length-rawsFrom count (drop base t) in
-    let z : weightAt (rawsIn t base count) k ≡ 0 = ap (λ r. r .w % 268435456) (past-last (rawsIn t base count) k (omega arith)) in
-    sym (le-ltb 268435455 (weightAt (rawsIn t base count) k + u) (omega arith))
+    let z : weightAt (rawsIn t base count) k ≡ 0 = ap weightIn (List·getD-eq-default (rawsIn t base count) noRaw (omega arith)) ∙ weight-none in
+    sym (le-ltb maxWeight (weightAt (rawsIn t base count) k + u) (omega arith))
 
-pub passes-is : (t : List ℕ) (base count k u w : ℕ) → k < count → w ≡ rawAt t (base + 5 * k) .w % 268435456
-    → ltb 268435455 (w + u) ≡ ltb 268435455 (weightAt (rawsIn t base count) k + u)
-passes-is t base count k u w h e = ap (λ v. ltb 268435455 (v + u)) (weight-read t base count k w h e)
+pub passes-is : (t : List ℕ) (base count k u w : ℕ) → k < count → w ≡ weightIn (rawAt t (base + rowWidth * k))
+    → ltb maxWeight (w + u) ≡ ltb maxWeight (weightAt (rawsIn t base count) k + u)
+passes-is t base count k u w h e = ap (λ v. ltb maxWeight (v + u)) (weight-read t base count k w h e)
 
 -- ---- the turns of the look
 
@@ -119,7 +108,7 @@ module _ (t : List ℕ) (base count : ℕ) (buffer : List ℕ) (kept moved : ℕ
   module _ (places : List ℕ) (fresh : ℕ) (heavy : Bool) (m : ℕ) (inv : Looking t base count buffer kept moved places fresh heavy m) where
     pub looking-next : m < kept → kept ≤ 26 → (x : Clause) → Holds x (getD (clausesIn 26 buffer) m []) → (k : ℕ)
         → k ≡ placeIn count (rawsIn t base count) (signsOf x) → (fresh′ : ℕ) → fresh′ ≡ fresh + cond (eqb k count) 1 0
-        → (heavy′ : Bool) → heavy′ ≡ (heavy || ltb 268435455 (weightAt (rawsIn t base count) k + moved))
+        → (heavy′ : Bool) → heavy′ ≡ (heavy || ltb maxWeight (weightAt (rawsIn t base count) k + moved))
         → Looking t base count buffer kept moved (set places m k) fresh′ heavy′ (m + 1)
     unfolding freshTo heavyTo
     looking-next h l x held k e fresh′ f heavy′ g =
@@ -134,7 +123,7 @@ module _ (t : List ℕ) (base count : ℕ) (buffer : List ℕ) (kept moved : ℕ
           long = length-set places m k ∙ long;
           few = omega (arith, at-most-one (eqb k count));
           counted = rw (add-one m) (f ∙ ap₂ (λ a b. a + cond (eqb b count) 1 0) (inv .counted) at);
-          weighed = rw (add-one m) (g ∙ ap₂ (λ a b. a || ltb 268435455 (weightAt qs b + moved)) (inv .weighed) at);
+          weighed = rw (add-one m) (g ∙ ap₂ (λ a b. a || ltb maxWeight (weightAt qs b + moved)) (inv .weighed) at);
           placed = placed-more count qs cs m places k (inv .placed) (omega arith) at;
         }
 

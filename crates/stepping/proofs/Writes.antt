@@ -1,5 +1,5 @@
 -- The writes, turn by turn: rows raised, weight taken from a row, rows appended. Each turn adds its change to those before it.
-use Prim.Native.Nat.{ℕ, zero, suc, _+_, _-_, _*_, _%_, _<_, _≤_}
+use Prim.Native.Nat.{ℕ, zero, suc, _+_, _-_, _*_, _<_, _≤_}
 use native.Mathlib.Omega.{arith}
 use native.Mathlib.Numerals.{add-one}
 use mathlib.Core.Path.{_≡_, refl, sym, ap, _∙_}
@@ -8,30 +8,24 @@ use mathlib.Core.List.{List, [], _∷_, _++_, append-nil}
 use lib.ListN.{length, getD, drop, length-append}
 use lib.Dec.{eqb}
 use borrow.Author.Tests.{eqb-true, eqb-false, eq-eqb, ne-eqb}
-use Rattle.words.specs.Layout.{weightWord}
 use Rattle.clause.specs.declared.Clause.{Clause}
 use Rattle.clause.specs.Packed.{signsOf, Holds}
 use Rattle.conclusions.specs.Buffer.{clausesIn}
 use Rattle.conclusions.proofs.Filling.{clausesIn-same-at}
-use Rattle.rows.specs.Raw.{Raw, rawAt, rawsIn, rawRow, Laid, Left, reweighed, without}
+use Rattle.rows.specs.Raw.{rowWidth, Raw, rawAt, rawsIn, Laid, Left, weightIn, rawRow, reweighed, without}
 use Rattle.rows.proofs.Flat.{length-rawsFrom}
 use Rattle.rows.proofs.Laying.{left-read, left-laid, left-trans, left-refl}
-use Rattle.rows.proofs.Changes.{length-reweighed, length-without}
-use Rattle.table.specs.Check.{clauseFrom}
+use Rattle.rows.proofs.Changes.{length-reweighed, reweighed-past, length-without}
+use Rattle.table.specs.Clauses.{clauseFrom}
+use Rattle.table.proofs.Twelve.{clauseFrom-signs}
 use Rattle.stepping.specs.Turns.{weightAt, raisedTo, takenFrom, appendedTo}
-use Rattle.stepping.proofs.Places.{weight-read, packed-back}
+use Rattle.stepping.proofs.Places.{weight-read}
 
 -- ---- raw rows in a laid table
 
-pub reweighed-past : (qs : List Raw) (k w : ℕ) → length qs ≤ k → reweighed qs k w ≡ qs
-unfolding reweighed
-reweighed-past [] k w h = refl
-reweighed-past (q ∷ qs) zero w h = absurd (omega arith)
-reweighed-past (q ∷ qs) (suc k) w h = ap (λ l. q ∷ l) (reweighed-past qs k w (omega arith))
-
 -- rows that are read from a laid table end within it
-pub laid-room : (t : List ℕ) (base count : ℕ) → Laid t base (rawsIn t base count) → base + 5 * count ≤ length t
-laid-room t base count l = omega (arith, l .fits, ap (λ n. 5 * n) (length-rawsFrom count (drop base t)))
+pub laid-room : (t : List ℕ) (base count : ℕ) → Laid t base (rawsIn t base count) → base + rowWidth * count ≤ length t
+laid-room t base count l = omega (arith, l .fits, ap (λ n. rowWidth * n) (length-rawsFrom count (drop base t)))
 
 -- ---- the turns of raising
 
@@ -57,20 +51,20 @@ module _ (t₀ : List ℕ) (base count : ℕ) (places : List ℕ) (kept moved : 
     pub raising-laid : Laid t base (rawsIn t base count)
     raising-laid = left-laid count many (inv .left)
 
-    pub raising-room : base + 5 * count ≤ length t
-    raising-room = omega (arith, inv .left .rows .fits, ap (λ n. 5 * n) many)
+    pub raising-room : base + rowWidth * count ≤ length t
+    raising-room = omega (arith, inv .left .rows .fits, ap (λ n. rowWidth * n) many)
 
     raising-read : rawsIn t base count ≡ raisedTo moved places (rawsIn t₀ base count) m
     raising-read = left-read count many (inv .left)
 
     -- the weight read is the one that the contract bounds
-    pub raising-weight : (w : ℕ) → getD places m 0 < count → w ≡ rawAt t (base + 5 * getD places m 0) .w % 268435456
+    pub raising-weight : (w : ℕ) → getD places m 0 < count → w ≡ weightIn (rawAt t (base + rowWidth * getD places m 0))
         → w ≡ weightAt (raisedTo moved places (rawsIn t₀ base count) m) (getD places m 0)
     raising-weight w h e =
         weight-read t base count (getD places m 0) w h e ∙ ap (λ qs. weightAt qs (getD places m 0)) raising-read
 
-    pub raising-next : m < kept → (w : ℕ) → getD places m 0 < count → w ≡ rawAt t (base + 5 * getD places m 0) .w % 268435456
-        → (t′ : List ℕ) → Left t base t′ (reweighed (rawsIn t base count) (getD places m 0) (weightWord (w + moved)))
+    pub raising-next : m < kept → (w : ℕ) → getD places m 0 < count → w ≡ weightIn (rawAt t (base + rowWidth * getD places m 0))
+        → (t′ : List ℕ) → Left t base t′ (reweighed (rawsIn t base count) (getD places m 0) (w + moved))
         → (t″ : List ℕ) → t″ ≡ t′ → Raising t₀ base count places kept moved t″ (m + 1)
     unfolding raisedTo
     raising-next h w l e t′ q t″ f =
@@ -83,7 +77,7 @@ module _ (t₀ : List ℕ) (base count : ℕ) (places : List ℕ) (kept moved : 
     raising-skip h l t′ e =
         let n = many in
         let same = reweighed-past (raisedTo moved places (rawsIn t₀ base count) m) (getD places m 0)
-        (weightWord (weightAt (raisedTo moved places (rawsIn t₀ base count) m) (getD places m 0) + moved)) (omega arith) in
+        (weightAt (raisedTo moved places (rawsIn t₀ base count) m) (getD places m 0) + moved) (omega arith) in
         record { bound = omega arith; left = rw (add-one m, same, e) (inv .left) }
 
     pub raising-end : kept ≤ m → Left t₀ base t (raisedTo moved places (rawsIn t₀ base count) kept)
@@ -91,7 +85,7 @@ module _ (t₀ : List ℕ) (base count : ℕ) (places : List ℕ) (kept moved : 
 
 -- ---- taking weight from a row
 
-module _ (t : List ℕ) (base count k u w : ℕ) (h : k < count) (e : w ≡ rawAt t (base + 5 * k) .w % 268435456) where
+module _ (t : List ℕ) (base count k u w : ℕ) (h : k < count) (e : w ≡ weightIn (rawAt t (base + rowWidth * k))) where
   pub taken-all : w ≡ u → (t′ : List ℕ) → Left t base t′ (without (rawsIn t base count) k)
       → Left t base t′ (takenFrom u k (rawsIn t base count)) × (count - 1 ≡ length (takenFrom u k (rawsIn t base count)))
   unfolding takenFrom
@@ -102,7 +96,7 @@ module _ (t : List ℕ) (base count k u w : ℕ) (h : k < count) (e : w ≡ rawA
       let m : count - 1 ≡ length (without qs k) = omega (arith, length-without qs k (omega arith)) in
       (rw b l, rw b m)
 
-  pub taken-some : (w ≡ u → ⊥) → (t′ : List ℕ) → Left t base t′ (reweighed (rawsIn t base count) k (weightWord (w - u)))
+  pub taken-some : (w ≡ u → ⊥) → (t′ : List ℕ) → Left t base t′ (reweighed (rawsIn t base count) k (w - u))
       → Left t base t′ (takenFrom u k (rawsIn t base count)) × (count ≡ length (takenFrom u k (rawsIn t base count)))
   unfolding takenFrom
   taken-some g t′ l =
@@ -110,7 +104,7 @@ module _ (t : List ℕ) (base count k u w : ℕ) (h : k < count) (e : w ≡ rawA
       let n = length-rawsFrom count (drop base t) in
       let f = weight-read t base count k w h e in
       let b : eqb (weightAt qs k) u ≡ false = ne-eqb (weightAt qs k) u (λ q. g (f ∙ q)) in
-      let m : count ≡ length (reweighed qs k (weightWord (weightAt qs k - u))) = sym (length-reweighed qs k _ ∙ n) in
+      let m : count ≡ length (reweighed qs k (weightAt qs k - u)) = sym (length-reweighed qs k _ ∙ n) in
       (rw b (rw f at l), rw b m)
 
 -- ---- the turns of appending
@@ -148,8 +142,8 @@ module _ (t₀ : List ℕ) (base count old : ℕ) (buffer places : List ℕ) (ke
     pub appending-laid : Laid t base (rawsIn t base now)
     appending-laid = left-laid now (sym (inv .counted)) (inv .left)
 
-    pub appending-room : m < kept → getD places m 0 ≡ old → base + 5 * length (appendedTo moved old places (clausesIn kept buffer) (rawsIn t₀ base count) kept) ≤ length t₀
-        → base + 5 * now + 5 ≤ length t
+    pub appending-room : m < kept → getD places m 0 ≡ old → base + rowWidth * length (appendedTo moved old places (clausesIn kept buffer) (rawsIn t₀ base count) kept) ≤ length t₀
+        → base + rowWidth * now + rowWidth ≤ length t
     unfolding rowsTo appendedTo
     appending-room h e room =
         let n = inv .counted in
@@ -167,7 +161,7 @@ module _ (t₀ : List ℕ) (base count old : ℕ) (buffer places : List ℕ) (ke
         let cs = clausesIn kept buffer in
         let c : getD cs m [] ≡ signsOf x = clausesIn-same-at kept 26 m buffer h (omega arith) ∙ sym (held .signsAre) in
         let r : rawRow x moved ≡ rawRow (clauseFrom (getD cs m [])) moved
-        = ap (λ y. rawRow y moved) (sym (ap (λ d. clauseFrom d) c ∙ packed-back x (held .packed))) in
+        = ap (λ y. rawRow y moved) (sym (ap (λ d. clauseFrom d) c ∙ clauseFrom-signs x)) in
         let b = eq-eqb (getD places m 0) old e in
         let n = inv .counted in
         record {

@@ -19,6 +19,12 @@ pub data Stepping : Type 0 where
 unfoldable pub allowed : ℕ → Pair → List Row → Stepping
 allowed cap pr rs = cond (tooHeavy rs) (refusing 11) (cond (ltb cap (length rs)) (refusing 12) (stepping pr rs))
 
+-- the number of a refusal, 0 for none
+unfoldable pub refusalOf : Stepping → ℕ
+refusalOf finished = 0
+refusalOf (refusing k) = k
+refusalOf (stepping pr rs) = 0
+
 -- the step word of a pair
 abbrev pub pairWord : Pair → ℕ
 pairWord pr = stepWord (pr .variable) (pr .first) (pr .second)

@@ -1,25 +1,25 @@
 -- What the look and the writes of a step do, one clause after another, on raw rows.
-use Prim.Native.Nat.{ℕ, zero, suc, _+_, _-_, _%_, _<_, _≤_}
+use Prim.Native.Nat.{ℕ, zero, suc, _+_, _-_, _<_, _≤_}
 use mathlib.Core.Path.{_≡_}
 use mathlib.Core.Bool.{Bool, false, _||_, cond}
 use mathlib.Core.List.{List, [], _∷_, _++_}
-use lib.ListN.{length, getD}
+use lib.ListN.{getD}
 use lib.Dec.{eqb, ltb}
 use Rattle.wcsp.specs.Clause.{kept}
-use Rattle.wcsp.specs.Row.{Row}
 use Rattle.wcsp.specs.Resolve.{Pair, movedWeight, conclusionsOf, resolve}
-use Rattle.words.specs.Layout.{weightWord}
 use Rattle.conclusions.specs.Buffer.{clausesIn, PackedBuffer}
 use Rattle.rows.specs.declared.Found.{Found}
 use Rattle.rows.specs.declared.Found.the-variants.{At, Missing}
-use Rattle.rows.specs.Raw.{Raw, noRaw, rawRow, rawsIn, findFrom, reweighed, without}
-use Rattle.table.specs.Layout.{rowsAt, maxWeight, tooHeavy}
+use Rattle.rows.specs.Raw.{maxWeight, Raw, noRaw, rawsIn, weightIn, rawRow, findFrom, reweighed, without}
+use Rattle.table.specs.Clauses.{clauseFrom}
+use Rattle.table.specs.Layout.{rowsAt}
 use Rattle.table.specs.Meaning.{variablesOf, rowCount, tableRows, domains}
-use Rattle.table.specs.Check.{clauseFrom, capacityOf}
+use Rattle.table.specs.Check.{capacityOf}
+use Rattle.stepping.specs.Step.{allowed, refusalOf}
 
 -- the weight of raw row k, 0 past the last
 abbrev pub weightAt : List Raw → ℕ → ℕ
-weightAt qs k = getD qs k noRaw .w % 268435456
+weightAt qs k = weightIn (getD qs k noRaw)
 
 -- ---- the look
 
@@ -55,12 +55,12 @@ unfoldable pub raisedTo : ℕ → List ℕ → List Raw → ℕ → List Raw
 unfolding reweighed
 raisedTo u places qs zero = qs
 raisedTo u places qs (suc m) =
-    reweighed (raisedTo u places qs m) (getD places m 0) (weightWord (weightAt (raisedTo u places qs m) (getD places m 0) + u))
+    reweighed (raisedTo u places qs m) (getD places m 0) (weightAt (raisedTo u places qs m) (getD places m 0) + u)
 
 -- u taken from raw row k, which goes if nothing is left of it
 unfoldable pub takenFrom : ℕ → ℕ → List Raw → List Raw
 unfolding reweighed without
-takenFrom u k qs = cond (eqb (weightAt qs k) u) (without qs k) (reweighed qs k (weightWord (weightAt qs k - u)))
+takenFrom u k qs = cond (eqb (weightAt qs k) u) (without qs k) (reweighed qs k (weightAt qs k - u))
 
 -- a new row for each of the first m clauses that had none among n rows
 unfoldable pub appendedTo : ℕ → ℕ → List ℕ → List (List ℕ) → List Raw → ℕ → List Raw
@@ -70,10 +70,6 @@ appendedTo u n places cs qs (suc m) =
 
 -- ---- the plan of a step
 
--- the refusal that finished rows bring: 0 for none
-unfoldable pub verdict : ℕ → List Row → ℕ
-verdict cap rs = cond (tooHeavy rs) 11 (cond (ltb cap (length rs)) 12 0)
-
 -- what the look at a table leaves: the conclusions that count, where their rows stand, the moved weight, and whether the step may be made
 pub record Planned (t : List ℕ) (pr : Pair) (buffer places : List ℕ) (kept′ moved number : ℕ) : Type 0 where
   pub few : kept′ ≤ 26
@@ -81,4 +77,4 @@ pub record Planned (t : List ℕ) (pr : Pair) (buffer places : List ℕ) (kept�
   pub clauses : clausesIn kept′ buffer ≡ kept (domains t) (conclusionsOf (domains t) pr (tableRows t))
   pub weight : moved ≡ movedWeight pr (tableRows t)
   pub placed : Placed (rowCount t) (rawsIn t (rowsAt (variablesOf t)) (rowCount t)) (clausesIn kept′ buffer) kept′ places
-  pub result : number ≡ verdict (capacityOf t) (resolve (domains t) pr (tableRows t))
+  pub result : number ≡ refusalOf (allowed (capacityOf t) pr (resolve (domains t) pr (tableRows t)))

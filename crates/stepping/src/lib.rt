@@ -1,14 +1,13 @@
 // One step on a table that the caller lends: it looks at every conclusion first, then writes, whole or not at all.
 ghost use mathlib.Core.Path.{_≡_};
 ghost use mathlib.Core.Bool.{true, cond};
-ghost use Prim.Native.Nat.{ℕ, _+_, _*_, _<_, _≤_, min};
+ghost use Prim.Native.Nat.{ℕ, _+_, _*_, _<_, _≤_};
 ghost use lib.ListN.{length, getD};
 ghost use lib.Dec.{eqb, ltb};
 ghost use Rattle.wcsp.specs.Resolve.{Permitted};
 ghost use Rattle.clause.specs.Packed.{Packed, signsOf};
 ghost use Rattle.conclusions.specs.Buffer.{clausesIn, PackedBuffer};
-ghost use Rattle.rows.specs.Raw.{rawsIn, Laid, Left};
-ghost use Rattle.table.specs.Layout.{maxWeight};
+ghost use Rattle.rows.specs.Raw.{rowWidth, maxWeight, rawsIn, Laid, Left};
 ghost use Rattle.table.specs.Meaning.{tableRows, domains};
 ghost use Rattle.table.specs.Valid.{validTable};
 ghost use Rattle.table.specs.Check.{shapeOf};
@@ -33,21 +32,12 @@ struct Sight {
 // The look before a step: how many conclusions count, the weight that each gets, and the refusal's number, 0 for none.
 struct Plan {
     pub kept: usize,
-    pub moved: u32,
+    pub moved: u64,
     pub number: u32,
 }
 
-fn lesser(a: u32, b: u32) -> u32
-    ensures { λ r. ⌜ r ≡ min a b ⌝ }
-{
-    if a < b {
-        return a;
-    }
-    b
-}
-
 // How many rows go, of one with this weight, when the moved weight is taken from it.
-fn used(weight: u32, moved: u32) -> usize
+fn used(weight: u64, moved: u64) -> usize
     ensures { λ r. ⌜ (r ≡ cond (eqb weight moved) 1 0) × (r ≤ 1) ⌝ }
 {
     if weight == moved {
@@ -58,7 +48,7 @@ fn used(weight: u32, moved: u32) -> usize
 
 // Where the clause's row stands; the row count if it has none.
 fn place(t: &[u32], base: usize, count: usize, x: Clause) -> usize
-    requires { ⌜ (base + 5 * count ≤ length (now t)) × Packed x ⌝ }
+    requires { ⌜ (base + rowWidth * count ≤ length (now t)) × Packed x ⌝ }
     ensures { λ r. ⌜ (r ≡ placeIn count (rawsIn (now (t .entry)) base count) (signsOf x)) × (r ≤ count) ⌝ }
 {
     let found = rows::find(t, base, count, x);
@@ -69,14 +59,14 @@ fn place(t: &[u32], base: usize, count: usize, x: Clause) -> usize
 }
 
 // Whether the row at this place would pass the limit.
-fn passes(t: &[u32], base: usize, count: usize, k: usize, moved: u32) -> bool
-    requires { ⌜ (base + 5 * count ≤ length (now t)) × (k ≤ count) × (moved ≤ 268435455) ⌝ }
+fn passes(t: &[u32], base: usize, count: usize, k: usize, moved: u64) -> bool
+    requires { ⌜ (base + rowWidth * count ≤ length (now t)) × (k ≤ count) × (moved ≤ maxWeight) ⌝ }
     ensures { λ r. ⌜ r ≡ ltb maxWeight (weightAt (rawsIn (now (t .entry)) base count) k + moved) ⌝ }
 {
     if k == count {
         return false;
     }
-    268435455 < rows::weight_of(t, base, k) + moved
+    rows::MAX_WEIGHT < rows::weight_of(t, base, k) + moved
 }
 
 // Notes where each conclusion's row stands; the row count for one that has none.
@@ -86,10 +76,10 @@ fn look(
     count: usize,
     buffer: &[u32; 104],
     kept: usize,
-    moved: u32,
+    moved: u64,
     places: &mut [usize; 26],
 ) -> Sight
-    requires { ⌜ (base + 5 * count ≤ length (now t)) × (kept ≤ 26) × (moved ≤ 268435455) × PackedBuffer (now buffer) × (length (now places) ≡ 26) ⌝ }
+    requires { ⌜ (base + rowWidth * count ≤ length (now t)) × (kept ≤ 26) × (moved ≤ maxWeight) × PackedBuffer (now buffer) × (length (now places) ≡ 26) ⌝ }
     ensures { λ r. ⌜ (r .fresh ≡ freshTo count (rawsIn (now (t .entry)) base count) (clausesIn kept (now (buffer .entry))) kept) × (r .heavy ≡ heavyTo moved count (rawsIn (now (t .entry)) base count) (clausesIn kept (now (buffer .entry))) kept) × Placed count (rawsIn (now (t .entry)) base count) (clausesIn kept (now (buffer .entry))) kept (now (places .exit)) × (r .fresh ≤ kept) ⌝ }
 {
     let mut fresh = 0;
@@ -110,8 +100,8 @@ fn look(
 }
 
 // The moved weight added to every row that was found.
-fn raise(t: &mut [u32], base: usize, count: usize, places: &[usize; 26], kept: usize, moved: u32)
-    requires { ⌜ Laid (now t) base (rawsIn (now t) base count) × (kept ≤ 26) × ((m : ℕ) → m < kept → weightAt (raisedTo moved (now places) (rawsIn (now t) base count) m) (getD (now places) m 0) + moved ≤ 268435455) ⌝ }
+fn raise(t: &mut [u32], base: usize, count: usize, places: &[usize; 26], kept: usize, moved: u64)
+    requires { ⌜ Laid (now t) base (rawsIn (now t) base count) × (kept ≤ 26) × ((m : ℕ) → m < kept → weightAt (raisedTo moved (now places) (rawsIn (now t) base count) m) (getD (now places) m 0) + moved ≤ maxWeight) ⌝ }
     ensures { λ r. ⌜ Left (now (t .entry)) base (now (t .exit)) (raisedTo moved (now (places .entry)) (rawsIn (now (t .entry)) base count) kept) ⌝ }
 {
     let mut m = 0;
@@ -126,7 +116,7 @@ fn raise(t: &mut [u32], base: usize, count: usize, places: &[usize; 26], kept: u
 }
 
 // The moved weight taken from row k; a row at 0 is removed. The answer is the number of rows left.
-fn lessen(t: &mut [u32], base: usize, count: usize, k: usize, moved: u32) -> usize
+fn lessen(t: &mut [u32], base: usize, count: usize, k: usize, moved: u64) -> usize
     requires { ⌜ Laid (now t) base (rawsIn (now t) base count) × (k < count) × (moved ≤ weightAt (rawsIn (now t) base count) k) ⌝ }
     ensures { λ r. ⌜ Left (now (t .entry)) base (now (t .exit)) (takenFrom moved k (rawsIn (now (t .entry)) base count)) × (r ≡ length (takenFrom moved k (rawsIn (now (t .entry)) base count))) ⌝ }
 {
@@ -148,9 +138,9 @@ fn append_missing(
     buffer: &[u32; 104],
     places: &[usize; 26],
     kept: usize,
-    moved: u32,
+    moved: u64,
 ) -> usize
-    requires { ⌜ Laid (now t) base (rawsIn (now t) base count) × (kept ≤ 26) × (moved ≤ 268435455) × PackedBuffer (now buffer) × (base + 5 * length (appendedTo moved old (now places) (clausesIn kept (now buffer)) (rawsIn (now t) base count) kept) ≤ length (now t)) ⌝ }
+    requires { ⌜ Laid (now t) base (rawsIn (now t) base count) × (kept ≤ 26) × (moved ≤ maxWeight) × PackedBuffer (now buffer) × (base + rowWidth * length (appendedTo moved old (now places) (clausesIn kept (now buffer)) (rawsIn (now t) base count) kept) ≤ length (now t)) ⌝ }
     ensures { λ r. ⌜ Left (now (t .entry)) base (now (t .exit)) (appendedTo moved old (now (places .entry)) (clausesIn kept (now (buffer .entry))) (rawsIn (now (t .entry)) base count) kept) × (r ≡ length (appendedTo moved old (now (places .entry)) (clausesIn kept (now (buffer .entry))) (rawsIn (now (t .entry)) base count) kept)) ⌝ }
 {
     let mut now = count;
@@ -184,7 +174,7 @@ fn survey(
     let fulls = shape.fulls;
     let first = rows::weight_of(t, base, i);
     let second = rows::weight_of(t, base, j);
-    let moved = lesser(first, second);
+    let moved = fields::lesser(first, second);
     let kept = conclusions::conclude(
         buffer,
         rows::clause_of(t, base, i),

@@ -15,10 +15,10 @@ use Rattle.rows.specs.declared.Found.{Found}
 use Rattle.rows.specs.declared.Found.the-variants.{At, Missing}
 use Rattle.rows.specs.Raw.{rawRow, sameSigns, findFrom}
 use Rattle.rows.proofs.RowWords.{sameSigns-rows}
-use Rattle.table.specs.Check.{clauseFrom}
+use Rattle.table.specs.Clauses.{clauseFrom}
 use Rattle.table.specs.Raws.{rawOf}
 use Rattle.table.proofs.Twelve.{Twelve, signs-clauseFrom}
-use Rattle.table.proofs.RawRows.{AllCarried, nilCarried, consCarried}
+use Rattle.table.proofs.Carried.{AllCarried, nilCarried, consCarried}
 
 -- ---- sign words and signs
 

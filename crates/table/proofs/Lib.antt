@@ -1,8 +1,13 @@
 -- The laws of this crate that belong to no one function.
 pub mod Twelve
-pub mod RawRows
+pub mod Carried
 pub mod WordTests
 pub mod ValidParts
+pub mod TableLaws
+pub mod FormRows
+pub mod FormTables
+pub mod FormFinishing
+pub mod RawRows
 pub mod Canonical
 pub mod Finishing
 pub mod Finding
@@ -10,3 +15,7 @@ pub mod RowTests
 pub mod RowsTests
 pub mod Fronts
 pub mod Checking
+pub mod Tested
+pub mod Reading
+pub mod Weighing
+pub mod Held

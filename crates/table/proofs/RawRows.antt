@@ -1,86 +1,54 @@
--- Rows and raw rows give each other: what is read from words is what the raw rows there say, and what is written is the raw rows' words.
-use Prim.Native.Nat.{ℕ, zero, suc, _+_, _<_, _≤_}
+-- The form that every table has keeps the laws of a form of tables: rows and raw rows give each other, and a row's words pass the tests exactly if they are made from it.
+use Prim.Native.Nat.{ℕ, zero, suc, _+_, _*_, _<_, _≤_}
+use native.Mathlib.Nat.{le-of-suc-le-suc}
 use native.Mathlib.Omega.{arith}
-use mathlib.Core.Path.{_≡_, refl, ap, ap₂, _∙_}
-use mathlib.Core.Bool.{false}
+use mathlib.Core.Path.{_≡_, refl, sym, ap, _∙_}
+use mathlib.Core.Bool.{true, _&&_}
 use mathlib.Core.List.{List, [], _∷_, _++_, map}
-use lib.ListN.{length, drop}
-use lib.Seq.{getD-drop}
-use lib.Dec.{ltb}
-use borrow.Author.Tests.{ltb-false, le-ltb}
-use Rattle.wcsp.specs.Row.{Row, ValidRows, nilRows, consRows}
-use Rattle.wcsp.proofs.Lists.{or-left, or-right}
-use Rattle.words.specs.Layout.{payloadOf, weightWord}
+use lib.ListN.{length, getD, drop}
+use Rattle.wcsp.specs.Row.{Row}
+use Rattle.wcsp.specs.Resolve.{noRow}
+use Rattle.wcsp.proofs.Lists.{and-left, and-right}
 use Rattle.clause.specs.declared.Clause.{Clause}
 use Rattle.clause.specs.Packed.{signsOf, Packed}
-use Rattle.input.proofs.Validating.{padded-length}
-use Rattle.rows.specs.Raw.{Raw, flat, rawAt, rawsFrom, rawRow, clauseIn}
-use Rattle.rows.proofs.RowWords.{clauseIn-rawRow}
-use Rattle.table.specs.Layout.{rowWords, rowsWords, tooHeavy}
-use Rattle.table.specs.Meaning.{rowFrom, rowsFrom}
-use Rattle.table.specs.Check.{clauseFrom, Sizes, Holdable}
-use Rattle.table.specs.Raws.{rowOf, rawOf}
-use Rattle.table.proofs.Twelve.{Twelve, twelve-signsOf, signs-clauseFrom, packed-clauseFrom, sizes-padded, twelve-valid}
+use Rattle.rows.specs.Raw.{rowWidth, maxWeight, Raw, noRaw, rawWords, rawAt, rawsIn, weightIn, rowWeighs, signWords, rawRow, clauseIn}
+use Rattle.rows.proofs.Flat.{rowLaws, length-rawsFrom, raw-at}
+use Rattle.rows.proofs.RowWords.{clauseIn-rawRow, weight-most, weight-rawRow, weight-none, weight-made, weight-positive, weight-passes, row-of-words}
+use Rattle.table.specs.Clauses.{clauseFrom}
+use Rattle.table.specs.Raws.{rowOf, rawOf, tableForm}
+use Rattle.table.specs.Meaning.{rowsFromIn, rowsFrom}
+use Rattle.table.specs.Valid.{isSigns, signKinds}
+use Rattle.table.proofs.Twelve.{twelve-signsOf, signs-clauseFrom, packed-clauseFrom, clauseFrom-signs}
+use Rattle.table.proofs.Carried.{Carried, AllCarried}
+use Rattle.table.proofs.WordTests.{signs-made, signs-passes}
+use Rattle.table.proofs.TableLaws.{TableLaws}
+use Rattle.table.proofs.FormRows as forms
 
--- ---- reading
+-- ---- what a raw row says
 
-pub rowFrom-raw : (ws : List ℕ) → rowFrom ws ≡ rowOf (rawAt ws 0)
-unfolding rowFrom rowOf rawAt signsOf
-rowFrom-raw ws = refl
-
-pub rowsFrom-raws : (k : ℕ) (ws : List ℕ) → rowsFrom k ws ≡ map rowOf (rawsFrom k ws)
-unfolding rowsFrom rawsFrom
-rowsFrom-raws zero ws = refl
-rowsFrom-raws (suc k) ws = ap₂ (λ r rs. r ∷ rs) (rowFrom-raw ws) (rowsFrom-raws k (drop 5 ws))
-
--- the row at a place of a table
-pub rowFrom-at : (t : List ℕ) (at : ℕ) → rowFrom (drop at t) ≡ rowOf (rawAt t at)
-unfolding rowFrom rowOf rawAt signsOf
-rowFrom-at t at = let e : at + 0 ≡ at = omega arith in simp (getD-drop, e)
-
-pub signs-at : (t : List ℕ) (at : ℕ) → rowFrom (drop at t) .signs ≡ signsOf (clauseIn (rawAt t at))
+pub rowOf-signs : (r : Raw) → rowOf r .signs ≡ signsOf (clauseIn r)
 unfolding rowOf
-signs-at t at = ap (λ r. r .signs) (rowFrom-at t at)
+rowOf-signs r = refl
 
-pub weight-at : (t : List ℕ) (at : ℕ) → rowFrom (drop at t) .weight ≡ payloadOf (rawAt t at .w)
+pub rowOf-weight : (r : Raw) → rowOf r .weight ≡ weightIn r
 unfolding rowOf
-weight-at t at = ap (λ r. r .weight) (rowFrom-at t at)
-
-pub length-rowsFrom : (k : ℕ) (ws : List ℕ) → length (rowsFrom k ws) ≡ k
-unfolding rowsFrom
-length-rowsFrom zero ws = refl
-length-rowsFrom (suc k) ws = ap suc (length-rowsFrom k (drop 5 ws))
-
--- ---- writing
-
-pub rowsWords-flat : (rs : List Row) → rowsWords rs ≡ flat (map rawOf rs)
-unfolding rowsWords rowWords flat
-rowsWords-flat [] = refl
-rowsWords-flat (r ∷ rs) = ap (λ ws. rowWords r ++ ws) (rowsWords-flat rs)
-
--- ---- there and back
+rowOf-weight r = refl
 
 pub packed-clauseIn : (r : Raw) → Packed (clauseIn r)
 packed-clauseIn r = record { a = omega arith; b = omega arith; c = omega arith; d = omega arith }
 
-pub payload-weight : (w : ℕ) → w < 268435456 → payloadOf (weightWord w) ≡ w
-payload-weight w h = omega arith
+carries : (r : Raw) → Carried (rowOf r)
+unfolding rowOf
+carries r = record { twelve = twelve-signsOf (clauseIn r) (packed-clauseIn r); light = weight-most r }
 
-pub rowOf-rawRow : (x : Clause) (w : ℕ) → Packed x → w < 268435456 → rowOf (rawRow x w) ≡ record { signs = signsOf x; weight = w }
+-- ---- the raw row that says it
+
+rowOf-rawRow : (x : Clause) (w : ℕ) → Packed x → w ≤ maxWeight → rowOf (rawRow x w) ≡ record { signs = signsOf x; weight = w }
 unfolding rowOf
 rowOf-rawRow x w p h =
     let e = clauseIn-rawRow x w p in
-    let f = payload-weight w h in
+    let f = weight-rawRow x w h in
     λ i. record { signs = signsOf (e i); weight = f i }
-
--- rows that raw rows can carry
-pub record Carried (r : Row) : Type 0 where
-  pub twelve : Twelve (r .signs)
-  pub light : r .weight < 268435456
-
-pub data AllCarried : List Row → Type 0 where
-  nilCarried : AllCarried []
-  consCarried : {r : Row} {rs : List Row} → Carried r → AllCarried rs → AllCarried (r ∷ rs)
 
 pub rowOf-rawOf : (r : Row) → Carried r → rowOf (rawOf r) ≡ r
 rowOf-rawOf r h =
@@ -88,35 +56,80 @@ rowOf-rawOf r h =
     rowOf-rawRow (clauseFrom (r .signs)) (r .weight) (packed-clauseFrom (r .signs) (h .twelve)) (h .light)
     ∙ λ i. record { signs = e i; weight = r .weight }
 
-pub rows-raws : {rs : List Row} → AllCarried rs → map rowOf (map rawOf rs) ≡ rs
-rows-raws nilCarried = refl
-rows-raws (consCarried {r = r} h t) = ap₂ (λ q qs. q ∷ qs) (rowOf-rawOf r h) (rows-raws t)
+-- ---- its words
 
--- ---- which rows are carried
+-- words of the right kinds are those of the raw row that is made from what they say
+made : (ws : List ℕ) → signKinds ws ≡ true → rowWeighs ws ≡ true → rawAt ws 0 ≡ rawOf (rowOf (rawAt ws 0))
+unfolding signKinds rawAt rowOf
+made ws e w =
+    let r = rawAt ws 0 in
+    let s0 = isSigns 0 (r .a) in
+    let s1 = isSigns 1 (r .b) in
+    let s2 = isSigns 2 (r .c) in
+    let s3 = isSigns 3 (r .d) in
+    let e3 = and-left (s0 && s1 && s2) s3 e in
+    let e2 = and-left (s0 && s1) s2 e3 in
+    weight-made ws w
+    ∙ row-of-words (clauseIn r) (r .a) (r .b) (r .c) (r .d) (weightIn r) (signs-made 0 (r .a) (and-left s0 s1 e2)) (signs-made 1 (r .b) (and-right s0 s1 e2)) (signs-made 2 (r .c) (and-right (s0 && s1) s2 e3)) (signs-made 3 (r .d) (and-right (s0 && s1 && s2) s3 e))
+    ∙ ap (λ x. rawRow x (weightIn r)) (sym (clauseFrom-signs (clauseIn r)))
 
-pub carried-rowOf : (r : Raw) → Carried (rowOf r)
+positive : (ws : List ℕ) → rowWeighs ws ≡ true → 0 < rowOf (rawAt ws 0) .weight
 unfolding rowOf
-carried-rowOf r = record { twelve = twelve-signsOf (clauseIn r) (packed-clauseIn r); light = omega arith }
+positive ws w = weight-positive ws w
+
+signs-pass : (r : Row) (ws : List ℕ) → Carried r → signKinds (rawWords (rawOf r) ++ ws) ≡ true
+unfolding signKinds
+signs-pass r ws h =
+    let b = packed-clauseFrom (r .signs) (h .twelve) in
+    rw (signs-passes 0 _ (omega arith) (b .a), signs-passes 1 _ (omega arith) (b .b), signs-passes 2 _ (omega arith) (b .c), signs-passes 3 _ (omega arith) (b .d))
+
+weight-pass : (r : Row) (ws : List ℕ) → Carried r → 0 < r .weight → rowWeighs (rawWords (rawOf r) ++ ws) ≡ true
+weight-pass r ws h p = weight-passes (signWords _ _ _ _) (r .weight) ws p (h .light)
+
+pub tableLaws : TableLaws tableForm
+tableLaws =
+    record {
+      form = rowLaws;
+      carries = carries;
+      says = rowOf-rawOf;
+      made = made;
+      positive = positive;
+      signs-pass = signs-pass;
+      weight-passes = weight-pass;
+    }
+
+-- ---- so the rows of a table
+
+pub length-rowsFrom : (k : ℕ) (ws : List ℕ) → length (rowsFrom k ws) ≡ k
+length-rowsFrom k ws = forms.length-rowsFrom tableForm k ws
+
+pub rows-raws : {rs : List Row} → AllCarried rs → map rowOf (map rawOf rs) ≡ rs
+rows-raws h = forms.rows-raws tableForm tableLaws h
 
 pub carried-rowsFrom : (k : ℕ) (ws : List ℕ) → AllCarried (rowsFrom k ws)
-unfolding rowsFrom
-carried-rowsFrom zero ws = nilCarried
-carried-rowsFrom (suc k) ws = consCarried {r = rowFrom ws} (rw (rowFrom-raw ws) (carried-rowOf (rawAt ws 0))) (carried-rowsFrom k (drop 5 ws))
+carried-rowsFrom k ws = forms.carried-rowsFrom tableForm tableLaws k ws
 
-pub carried-valid : {ds : List ℕ} {rs : List Row} → length ds ≡ 12 → Sizes ds → ValidRows ds rs → tooHeavy rs ≡ false → AllCarried rs
-unfolding tooHeavy
-carried-valid h s nilRows e = nilCarried
-carried-valid {ds} h s (consRows {r = r} {rs = rs} v p a t) e =
-    let l : r .weight < 268435456 = omega (arith, ltb-false 268435455 (r .weight) (or-left (ltb 268435455 (r .weight)) (tooHeavy rs) e)) in
-    consCarried {r = r} (record { twelve = twelve-valid ds h s v; light = l })
-    (carried-valid h s t (or-right (ltb 268435455 (r .weight)) (tooHeavy rs) e))
+mapped-at : (rs : List Raw) (k : ℕ) → k < length rs → getD (map rowOf rs) k noRow ≡ rowOf (getD rs k noRaw)
+mapped-at [] k h = absurd (omega arith)
+mapped-at (r ∷ rs) zero h = refl
+mapped-at (r ∷ rs) (suc k) h = mapped-at rs k (le-of-suc-le-suc h)
 
-pub carried-light : {rs : List Row} → AllCarried rs → tooHeavy rs ≡ false
-unfolding tooHeavy
-carried-light nilCarried = refl
-carried-light (consCarried {r = r} h t) =
-    let l : r .weight ≤ 268435455 = omega (arith, h .light) in
-    rw (le-ltb 268435455 (r .weight) l) (carried-light t)
+-- the weight of a row and of the raw row that carries it; past the last both are 0
+pub weight-raws : (rs : List Row) (k : ℕ) → getD rs k noRow .weight ≤ maxWeight → weightIn (getD (map rawOf rs) k noRaw) ≡ getD rs k noRow .weight
+weight-raws [] k h = weight-none
+weight-raws (r ∷ rs) zero h = weight-rawRow (clauseFrom (r .signs)) (r .weight) h
+weight-raws (r ∷ rs) (suc k) h = weight-raws rs k h
 
-pub holdable-carried : {len : ℕ} {ds : List ℕ} {rs : List Row} → Holdable len ds rs → AllCarried rs
-holdable-carried {ds = ds} h = carried-valid (padded-length ds (h .few)) (sizes-padded (h .sizes)) (h .valid) (h .light)
+-- row k of a table
+module _ (t : List ℕ) (base count k : ℕ) (h : k < count) where
+  pub row-at : getD (rowsFrom count (drop base t)) k noRow ≡ rowOf (rawAt t (base + rowWidth * k))
+  unfolding rowsFromIn
+  row-at =
+      let n = length-rawsFrom count (drop base t) in
+      mapped-at (rawsIn t base count) k (omega arith) ∙ ap rowOf (raw-at t base count k h)
+
+  pub signs-at : getD (rowsFrom count (drop base t)) k noRow .signs ≡ signsOf (clauseIn (rawAt t (base + rowWidth * k)))
+  signs-at = ap (λ (r : Row). r .signs) row-at ∙ rowOf-signs (rawAt t (base + rowWidth * k))
+
+  pub weight-at : getD (rowsFrom count (drop base t)) k noRow .weight ≡ weightIn (rawAt t (base + rowWidth * k))
+  weight-at = ap (λ (r : Row). r .weight) row-at ∙ rowOf-weight (rawAt t (base + rowWidth * k))

@@ -1,8 +1,8 @@
--- The tests of a row as the code makes them: the bytes of two blocks side by side, the kinds of five words, and both together.
+-- The tests of a row as the code makes them: the bytes of two blocks side by side, the kinds of its sign words, and all together with its weight.
 use Prim.Native.Nat.{ℕ, _+_, _*_, _/_, _%_, _<_, _≤_}
 use native.Mathlib.Omega.{arith}
 use mathlib.Core.Path.{_≡_, refl, sym, ap, _∙_}
-use mathlib.Core.Bool.{Bool, true, false, not, _&&_, and-false}
+use mathlib.Core.Bool.{Bool, true, false, _&&_, and-false}
 use mathlib.Core.List.{List, [], _∷_, _++_, map}
 use lib.ListN.{getD, drop}
 use lib.Seq.{getD-drop}
@@ -12,10 +12,11 @@ use Rattle.wcsp.specs.Sign.{full}
 use Rattle.words.specs.Layout.{unpacked}
 use Rattle.clause.specs.declared.Clause.{Clause}
 use Rattle.clause.specs.Packed.{signsOf, FullSigns}
-use Rattle.rows.specs.Raw.{rawAt, clauseIn}
-use Rattle.table.specs.Valid.{validSigns, allBelow, rowKinds, validRow}
-use Rattle.table.proofs.RawRows.{signs-at}
-use Rattle.table.proofs.WordTests.{signs-test, weight-test}
+use Rattle.rows.specs.Raw.{rowWidth, rawAt, rowWeighs, clauseIn}
+use Rattle.rows.proofs.Flat.{rawAt-front}
+use Rattle.table.specs.Valid.{signKinds, validSigns, allBelow, validRowIn, validRow}
+use Rattle.table.proofs.WordTests.{signs-test}
+use Rattle.table.proofs.RawRows.{rowOf-signs}
 
 -- ---- one block
 
@@ -86,55 +87,49 @@ module _ (x f : Clause) where
       → q ≡ true → r ≡ belowIn (x .d) (f .d) → (ds : List ℕ) → FullSigns f ds → r ≡ validSigns ds (signsOf x)
   as-d o p q r i m j s k u e ds h = rw (← i, m, ← j, s, ← k, u, ← e) at (signs-blocks x f ds h)
 
--- ---- the kinds of five words
+-- ---- the kinds of four sign words
 
 module _ (t : List ℕ) (at : ℕ) where
-  kinds-at : rowKinds (drop at t)
+  kinds-at : signKinds (drop at t)
       ≡ (eqb (getD t at 0 / 16777216) 80 && eqb (getD t (at + 1) 0 / 16777216) 81 && eqb (getD t (at + 2) 0 / 16777216) 82
-      && eqb (getD t (at + 3) 0 / 16777216) 83 && (eqb (getD t (at + 4) 0 / 268435456) 6 && not (eqb (getD t (at + 4) 0 % 268435456) 0)))
-  unfolding rowKinds
+      && eqb (getD t (at + 3) 0 / 16777216) 83)
+  unfolding signKinds
   kinds-at =
       let e : at + 0 ≡ at = omega arith in
-      simp (getD-drop, e) (rw (signs-test 0 (getD t at 0) (omega arith), signs-test 1 (getD t (at + 1) 0) (omega arith), signs-test 2 (getD t (at + 2) 0) (omega arith), signs-test 3 (getD t (at + 3) 0) (omega arith), weight-test (getD t (at + 4) 0)))
+      simp (getD-drop, e) (rw (signs-test 0 (getD t at 0) (omega arith), signs-test 1 (getD t (at + 1) 0) (omega arith), signs-test 2 (getD t (at + 2) 0) (omega arith), signs-test 3 (getD t (at + 3) 0) (omega arith)))
 
-  pub other-a : (getD t at 0 / 16777216 ≡ 80 → ⊥) → false ≡ rowKinds (drop at t)
+  pub other-a : (getD t at 0 / 16777216 ≡ 80 → ⊥) → false ≡ signKinds (drop at t)
   other-a h = sym (kinds-at ∙ rw (ne-eqb (getD t at 0 / 16777216) 80 h))
 
-  pub other-b : getD t at 0 / 16777216 ≡ 80 → (getD t (at + 1) 0 / 16777216 ≡ 81 → ⊥) → false ≡ rowKinds (drop at t)
+  pub other-b : getD t at 0 / 16777216 ≡ 80 → (getD t (at + 1) 0 / 16777216 ≡ 81 → ⊥) → false ≡ signKinds (drop at t)
   other-b a h = sym (kinds-at ∙ rw (eq-eqb (getD t at 0 / 16777216) 80 a, ne-eqb (getD t (at + 1) 0 / 16777216) 81 h))
 
   pub other-c : getD t at 0 / 16777216 ≡ 80 → getD t (at + 1) 0 / 16777216 ≡ 81 → (getD t (at + 2) 0 / 16777216 ≡ 82 → ⊥)
-      → false ≡ rowKinds (drop at t)
+      → false ≡ signKinds (drop at t)
   other-c a b h =
       sym (kinds-at ∙ rw (eq-eqb (getD t at 0 / 16777216) 80 a, eq-eqb (getD t (at + 1) 0 / 16777216) 81 b, ne-eqb (getD t (at + 2) 0 / 16777216) 82 h))
 
-  module _ (a : getD t at 0 / 16777216 ≡ 80) (b : getD t (at + 1) 0 / 16777216 ≡ 81) (c : getD t (at + 2) 0 / 16777216 ≡ 82) where
-    abbrev last : Bool
-    last = eqb (getD t (at + 4) 0 / 268435456) 6 && not (eqb (getD t (at + 4) 0 % 268435456) 0)
-
-    three-good : rowKinds (drop at t) ≡ (eqb (getD t (at + 3) 0 / 16777216) 83 && last)
-    three-good = kinds-at ∙ rw (eq-eqb (getD t at 0 / 16777216) 80 a, eq-eqb (getD t (at + 1) 0 / 16777216) 81 b, eq-eqb (getD t (at + 2) 0 / 16777216) 82 c)
-
-    pub other-d : (getD t (at + 3) 0 / 16777216 ≡ 83 → ⊥) → false ≡ rowKinds (drop at t)
-    other-d h = sym (three-good ∙ rw (ne-eqb (getD t (at + 3) 0 / 16777216) 83 h))
-
-    pub other-w : getD t (at + 3) 0 / 16777216 ≡ 83 → (getD t (at + 4) 0 / 268435456 ≡ 6 → ⊥) → false ≡ rowKinds (drop at t)
-    other-w d h = sym (three-good ∙ rw (eq-eqb (getD t (at + 3) 0 / 16777216) 83 d, ne-eqb (getD t (at + 4) 0 / 268435456) 6 h))
-
-    pub as-w : getD t (at + 3) 0 / 16777216 ≡ 83 → getD t (at + 4) 0 / 268435456 ≡ 6
-        → not (eqb (getD t (at + 4) 0 % 268435456) 0) ≡ rowKinds (drop at t)
-    as-w d w = sym (three-good ∙ rw (eq-eqb (getD t (at + 3) 0 / 16777216) 83 d, eq-eqb (getD t (at + 4) 0 / 268435456) 6 w))
+  pub as-fourth : getD t at 0 / 16777216 ≡ 80 → getD t (at + 1) 0 / 16777216 ≡ 81 → getD t (at + 2) 0 / 16777216 ≡ 82
+      → eqb (getD t (at + 3) 0 / 16777216) 83 ≡ signKinds (drop at t)
+  as-fourth a b c =
+      sym (kinds-at ∙ rw (eq-eqb (getD t at 0 / 16777216) 80 a, eq-eqb (getD t (at + 1) 0 / 16777216) 81 b, eq-eqb (getD t (at + 2) 0 / 16777216) 82 c))
 
 -- ---- a row
 
 module _ (t : List ℕ) (at : ℕ) where
-  pub wrong-kinds : (k : Bool) → k ≡ rowKinds (drop at t) → k ≡ false → (ds : List ℕ) → false ≡ validRow ds (drop at t)
-  unfolding validRow
-  wrong-kinds k e f ds = rw (← e, f)
+  row-there : (ds : List ℕ) → validRow ds (drop at t) ≡ (signKinds (drop at t) && rowWeighs (drop at t) && validSigns ds (signsOf (clauseIn (rawAt t at))))
+  unfolding validRowIn
+  row-there ds = rw (rawAt-front t at, rowOf-signs (rawAt t at))
 
-  pub as-signs : (k : Bool) (x f : Clause) (r : Bool) → k ≡ rowKinds (drop at t) → k ≡ true → x ≡ clauseIn (rawAt t (at + 5 * 0))
+  pub wrong-signs : (k : Bool) → k ≡ signKinds (drop at t) → k ≡ false → (ds : List ℕ) → false ≡ validRow ds (drop at t)
+  wrong-signs k e f ds = rw (row-there ds, ← e, f)
+
+  pub wrong-weight : (k : Bool) → k ≡ rowWeighs (drop at t) → k ≡ false → (ds : List ℕ) → false ≡ validRow ds (drop at t)
+  wrong-weight k e f ds = rw (row-there ds, ← e, f, and-false)
+
+  pub as-signs : (k w : Bool) (x f : Clause) (r : Bool) → k ≡ signKinds (drop at t) → k ≡ true → w ≡ rowWeighs (drop at t) → w ≡ true
+      → x ≡ clauseIn (rawAt t (at + rowWidth * 0))
       → ((ds : List ℕ) → FullSigns f ds → r ≡ validSigns ds (signsOf x)) → (ds : List ℕ) → FullSigns f ds → r ≡ validRow ds (drop at t)
-  unfolding validRow
-  as-signs k x f r e g p h ds l =
-      let z : at + 5 * 0 ≡ at = omega arith in
-      rw (← e, g, signs-at t at) (h ds l ∙ ap (λ y. validSigns ds (signsOf y)) p ∙ ap (λ i. validSigns ds (signsOf (clauseIn (rawAt t i)))) z)
+  as-signs k w x f r e g i j p h ds l =
+      let z : at + rowWidth * 0 ≡ at = omega arith in
+      rw (row-there ds, ← e, g, ← i, j) (h ds l ∙ ap (λ y. validSigns ds (signsOf y)) p ∙ ap (λ n. validSigns ds (signsOf (clauseIn (rawAt t n)))) z)

@@ -1,26 +1,28 @@
 -- Twelve signs in four blocks: a list of twelve bytes packed into a clause unpacks to itself, and the full signs of sizes up to 8 are such a list.
-use Prim.Native.Nat.{ℕ, zero, suc, _+_, _-_, _<_, _≤_}
+use Prim.Native.Nat.{ℕ, suc, _+_, _-_, _<_, _≤_}
 use native.Mathlib.Omega.{arith}
 use mathlib.Core.Path.{_≡_, refl, sym, ap, _∙_}
 use mathlib.Core.List.{List, [], _∷_, _++_, map}
 use mathlib.Core.Bool.{Bool, true, false}
-use lib.ListN.{length, getD, drop, replicate, length-map, drop-of-length-le, List·getD-map, List·getD-eq-default}
+use lib.ListN.{length, getD, drop, length-map, drop-of-length-le, List·getD-eq-default}
 use lib.Seq.{drop-cons}
 use lib.Dec.{ltb}
 use borrow.Author.Tests.{ltb-true, ltb-false}
 use lib.Pow.{pow-mono}
 use Rattle.wcsp.specs.Sign.{full}
 use Rattle.wcsp.specs.Clause.{ValidClause}
+use Rattle.wcsp.proofs.Signs.{full-at}
 use Rattle.wcsp.proofs.Lists.{along-length, along-at}
 use Rattle.words.specs.Layout.{unpacked}
-use Rattle.words.proofs.Packing.{unpacked-packed, packed-bounded}
+use Rattle.words.proofs.Packing.{unpacked-packed, packed-unpacked, packed-bounded}
 use Rattle.clause.specs.declared.Clause.{Clause}
 use Rattle.clause.specs.Packed.{signsOf, Packed, FullSigns}
 use Rattle.clause.proofs.Signs12.{signsOf-length, sign-small}
-use Rattle.input.specs.Instance.{padded}
-use Rattle.input.proofs.Validating.{padded-length}
-use Rattle.table.specs.Layout.{blockAt}
-use Rattle.table.specs.Check.{clauseFrom, fullClause, Sizes, nilSizes, consSizes}
+use Rattle.fields.specs.Entries.{EachSize}
+use Rattle.fields.specs.Padding.{padded}
+use Rattle.fields.proofs.Padding.{padded-length, sizes-at, sizes-padded}
+use Rattle.table.specs.Clauses.{blockAt, clauseFrom}
+use Rattle.table.specs.Check.{fullClause}
 
 -- twelve signs, each a byte
 pub record Twelve (c : List ℕ) : Type 0 where
@@ -67,50 +69,46 @@ module _ (c : List ℕ) (t : Twelve c) where
         d = packed-bounded _ _ _ (t .small 9) (t .small 10) (t .small 11);
       }
 
+-- a clause is the one of its signs
+pub clauseFrom-signs : (x : Clause) → clauseFrom (signsOf x) ≡ x
+unfolding signsOf
+clauseFrom-signs x =
+    λ i. record {
+      a = packed-unpacked (x .a) i;
+      b = packed-unpacked (x .b) i;
+      c = packed-unpacked (x .c) i;
+      d = packed-unpacked (x .d) i;
+    }
+
 -- ---- full signs
 
 pub full-small : (d : ℕ) → d ≤ 8 → full d < 256
 unfolding full
 full-small d h = omega (arith, pow-mono {i = d} {j = 8} h)
 
-pub sizes-at : {ds : List ℕ} → Sizes ds → (v : ℕ) → getD ds v 0 ≤ 8
-sizes-at nilSizes v = omega arith
-sizes-at (consSizes h k s) zero = k
-sizes-at (consSizes h k s) (suc v) = sizes-at s v
-
-sizes-ones : {ds : List ℕ} (n : ℕ) → Sizes ds → Sizes (ds ++ replicate n 1)
-sizes-ones zero nilSizes = nilSizes
-sizes-ones (suc n) nilSizes = consSizes {d = 1} (omega arith) (omega arith) (sizes-ones n nilSizes)
-sizes-ones n (consSizes h k s) = consSizes h k (sizes-ones n s)
-
-pub sizes-padded : {ds : List ℕ} → Sizes ds → Sizes (padded ds)
-unfolding padded
-sizes-padded {ds} s = sizes-ones (12 - length ds) s
-
-pub twelve-full : (ds : List ℕ) → length ds ≡ 12 → Sizes ds → Twelve (map full ds)
-unfolding full
+pub twelve-full : (ds : List ℕ) → length ds ≡ 12 → EachSize ds → Twelve (map full ds)
 twelve-full ds h s =
     record {
       long = length-map ds full ∙ h;
-      small = λ v. rw (List·getD-map full ds v 0) (full-small (getD ds v 0) (sizes-at s v));
+      small = λ v. rw (full-at ds v) (full-small (getD ds v 0) (sizes-at s v));
     }
 
-pub full-signs : (ds : List ℕ) → length ds ≡ 12 → Sizes ds → FullSigns (fullClause ds) ds
+pub full-signs : (ds : List ℕ) → length ds ≡ 12 → EachSize ds → FullSigns (fullClause ds) ds
 full-signs ds h s = signs-clauseFrom (map full ds) (twelve-full ds h s)
 
-pub full-packed : (ds : List ℕ) → length ds ≡ 12 → Sizes ds → Packed (fullClause ds)
+pub full-packed : (ds : List ℕ) → length ds ≡ 12 → EachSize ds → Packed (fullClause ds)
 full-packed ds h s = packed-clauseFrom (map full ds) (twelve-full ds h s)
 
 -- the same for the sizes of a table
-pub full-signs-padded : (ds : List ℕ) → length ds ≤ 12 → Sizes ds → FullSigns (fullClause (padded ds)) (padded ds)
+pub full-signs-padded : (ds : List ℕ) → length ds ≤ 12 → EachSize ds → FullSigns (fullClause (padded ds)) (padded ds)
 full-signs-padded ds h s = full-signs (padded ds) (padded-length ds h) (sizes-padded s)
 
-pub full-packed-padded : (ds : List ℕ) → length ds ≤ 12 → Sizes ds → Packed (fullClause (padded ds))
+pub full-packed-padded : (ds : List ℕ) → length ds ≤ 12 → EachSize ds → Packed (fullClause (padded ds))
 full-packed-padded ds h s = full-packed (padded ds) (padded-length ds h) (sizes-padded s)
 
 -- ---- valid clauses
 
-module _ (ds : List ℕ) (h : length ds ≡ 12) (s : Sizes ds) where
+module _ (ds : List ℕ) (h : length ds ≡ 12) (s : EachSize ds) where
   pub twelve-valid : {c : List ℕ} → ValidClause ds c → Twelve c
   twelve-valid {c} a = record { long = long; small = λ v. go v (ltb v 12) refl }
     where

@@ -1,18 +1,15 @@
--- The words of a table: head, sizes, row count, rows, and zeros to the end of the slice. The weight limit and the capacity stand here alone; a row's five words stand in crate rows.
-use Prim.Native.Nat.{ℕ, zero, suc, _+_, _-_, _*_, _/_, min}
-use mathlib.Core.Bool.{Bool, false, _||_}
-use mathlib.Core.List.{List, [], _∷_, _++_, map}
-use lib.ListN.{length, getD, replicate}
-use lib.Dec.{ltb}
-use Rattle.wcsp.specs.Row.{Row}
-use Rattle.words.specs.Layout.{headWord, sizeWord, packed, signsWord, weightWord, countWord}
-
--- words to a row, the greatest weight, the most rows
-abbrev pub rowWidth : ℕ
-rowWidth = 5
-
-abbrev pub maxWeight : ℕ
-maxWeight = 268435455
+-- The words of a table: head, sizes, row count, rows, and zeros to the end of the slice. The most rows and the capacity stand here alone; a row's words stand in crate rows.
+use Prim.Native.Nat.{ℕ, _+_, _-_, _*_, _/_, min}
+use mathlib.Core.Bool.{Bool}
+use mathlib.Core.List.{List, _∷_, _++_, map}
+use lib.ListN.{length, replicate}
+use Rattle.wcsp.specs.Row.{Row, heavy}
+use Rattle.words.specs.Layout.{countWord}
+use Rattle.fields.specs.Front.{frontWords}
+use Rattle.rows.specs.Form.{flatIn}
+use Rattle.rows.specs.Raw.{maxWeight}
+use Rattle.table.specs.Form.{TableForm}
+use Rattle.table.specs.Raws.{tableForm}
 
 abbrev pub maxRows : ℕ
 maxRows = 4096
@@ -22,32 +19,24 @@ abbrev pub rowsAt : ℕ → ℕ
 rowsAt n = n + 2
 
 -- how many rows a slice of this length takes over n variables
-unfoldable pub capacity : ℕ → ℕ → ℕ
-capacity len n = min maxRows ((len - rowsAt n) / rowWidth)
-
--- the three signs of a clause from variable v on, in one block
-abbrev pub blockAt : List ℕ → ℕ → ℕ
-blockAt signs v = packed (getD signs v 0) (getD signs (v + 1) 0) (getD signs (v + 2) 0)
-
-unfoldable pub rowWords : Row → List ℕ
-rowWords r =
-    signsWord 0 (blockAt (r .signs) 0) ∷ signsWord 1 (blockAt (r .signs) 3) ∷ signsWord 2 (blockAt (r .signs) 6)
-    ∷ signsWord 3 (blockAt (r .signs) 9) ∷ weightWord (r .weight) ∷ []
-
-unfoldable pub rowsWords : List Row → List ℕ
-unfolding rowWords
-rowsWords [] = []
-rowsWords (r ∷ rs) = rowWords r ++ rowsWords rs
+unfoldable pub capacityIn : TableForm → ℕ → ℕ → ℕ
+capacityIn f len n = min maxRows ((len - rowsAt n) / f .rows .width)
 
 -- the whole slice of a table: these sizes, these rows, zeros past the last
-unfoldable pub tableWords : ℕ → List ℕ → List Row → List ℕ
-unfolding rowsWords
-tableWords len ds rs =
-    headWord (length ds)
-    ∷ (map sizeWord ds
-    ++ (countWord (length rs) ∷ (rowsWords rs ++ replicate (len - (rowsAt (length ds) + rowWidth * length rs)) 0)))
+unfoldable pub tableWordsIn : TableForm → ℕ → List ℕ → List Row → List ℕ
+tableWordsIn f len ds rs =
+    frontWords ds
+    ++ (countWord (length rs)
+    ∷ (flatIn (f .rows) (map (f .rawOf) rs) ++ replicate (len - (rowsAt (length ds) + f .rows .width * length rs)) 0))
+
+-- ---- in the form that every table has
+
+abbrev pub capacity : ℕ → ℕ → ℕ
+capacity len n = capacityIn tableForm len n
+
+abbrev pub tableWords : ℕ → List ℕ → List Row → List ℕ
+tableWords len ds rs = tableWordsIn tableForm len ds rs
 
 -- some weight passes the limit
-unfoldable pub tooHeavy : List Row → Bool
-tooHeavy [] = false
-tooHeavy (r ∷ rs) = ltb maxWeight (r .weight) || tooHeavy rs
+abbrev pub tooHeavy : List Row → Bool
+tooHeavy rs = heavy maxWeight rs

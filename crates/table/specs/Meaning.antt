@@ -1,11 +1,14 @@
 -- What a table's words mean, read without asking whether they are valid.
-use Prim.Native.Nat.{ℕ, zero, suc, _+_, _%_}
-use mathlib.Core.List.{List, [], _∷_, _++_, map}
-use lib.ListN.{length, getD, take, drop}
+use Prim.Native.Nat.{ℕ, _+_}
+use mathlib.Core.List.{List, map}
+use lib.ListN.{getD, take, drop}
 use Rattle.wcsp.specs.Row.{Row}
-use Rattle.words.specs.Layout.{payloadOf, unpacked}
-use Rattle.input.specs.Instance.{padded}
-use Rattle.table.specs.Layout.{rowsAt, rowWidth}
+use Rattle.words.specs.Layout.{payloadOf}
+use Rattle.fields.specs.Padding.{padded}
+use Rattle.rows.specs.Form.{rawsFromIn}
+use Rattle.table.specs.Form.{TableForm}
+use Rattle.table.specs.Raws.{tableForm}
+use Rattle.table.specs.Layout.{rowsAt}
 
 -- the number of variables, and their sizes
 abbrev pub variablesOf : List ℕ → ℕ
@@ -22,20 +25,18 @@ domains t = padded (tableSizes t)
 abbrev pub rowCount : List ℕ → ℕ
 rowCount t = payloadOf (getD t (variablesOf t + 1) 0)
 
--- the twelve signs and the weight of the row at the front of the words
-unfoldable pub rowFrom : List ℕ → Row
-rowFrom ws =
-    record {
-      signs = unpacked (getD ws 0 0 % 16777216) ++ (unpacked (getD ws 1 0 % 16777216) ++ (unpacked (getD ws 2 0 % 16777216) ++ unpacked (getD ws 3 0 % 16777216)));
-      weight = payloadOf (getD ws 4 0);
-    }
+-- the rows that words mean, and those of a table
+unfoldable pub rowsFromIn : TableForm → ℕ → List ℕ → List Row
+rowsFromIn f k ws = map (f .rowOf) (rawsFromIn (f .rows) k ws)
 
-unfoldable pub rowsFrom : ℕ → List ℕ → List Row
-unfolding rowFrom
-rowsFrom zero ws = []
-rowsFrom (suc k) ws = rowFrom ws ∷ rowsFrom k (drop rowWidth ws)
+unfoldable pub tableRowsIn : TableForm → List ℕ → List Row
+unfolding rowsFromIn
+tableRowsIn f t = rowsFromIn f (rowCount t) (drop (rowsAt (variablesOf t)) t)
 
--- the rows of a table
-unfoldable pub tableRows : List ℕ → List Row
-unfolding rowsFrom
-tableRows t = rowsFrom (rowCount t) (drop (rowsAt (variablesOf t)) t)
+-- ---- in the form that every table has
+
+abbrev pub rowsFrom : ℕ → List ℕ → List Row
+rowsFrom k ws = rowsFromIn tableForm k ws
+
+abbrev pub tableRows : List ℕ → List Row
+tableRows t = tableRowsIn tableForm t

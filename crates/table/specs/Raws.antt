@@ -1,15 +1,18 @@
--- Rows and the raw rows that carry them: what a raw row says, and the raw row that says it.
+-- Rows and the raw rows that carry them, in the form that every table has: what a raw row says, and the raw row that says it.
 use Rattle.wcsp.specs.Row.{Row}
-use Rattle.words.specs.Layout.{payloadOf}
 use Rattle.clause.specs.Packed.{signsOf}
-use Rattle.rows.specs.Raw.{Raw, rawRow, clauseIn}
-use Rattle.table.specs.Check.{clauseFrom}
+use Rattle.rows.specs.Raw.{maxWeight, Raw, rowForm, weightIn, rawRow, clauseIn, rowWeighs}
+use Rattle.table.specs.Clauses.{clauseFrom}
+use Rattle.table.specs.Form.{TableForm}
 
--- the twelve signs of the sign words and the weight of the weight word, whatever the words' kinds
+-- the twelve signs of the sign words and the weight, whatever the words' kinds
 unfoldable pub rowOf : Raw → Row
-unfolding signsOf
-rowOf r = record { signs = signsOf (clauseIn r); weight = payloadOf (r .w) }
+unfolding signsOf weightIn
+rowOf r = record { signs = signsOf (clauseIn r); weight = weightIn r }
 
--- four sign words with the row's signs, three to a word, and its weight word
+-- four sign words with the row's signs, three to a word, and its weight
 abbrev pub rawOf : Row → Raw
 rawOf r = rawRow (clauseFrom (r .signs)) (r .weight)
+
+abbrev pub tableForm : TableForm
+tableForm = record { rows = rowForm; limit = maxWeight; rowOf = rowOf; rawOf = rawOf; weighs = rowWeighs }

@@ -1,64 +1,33 @@
 -- Valid tables, exactly as document 01 says; every other slice gets 9.
 use Prim.Native.Nat.{ℕ, zero, suc, _+_, _*_}
 use mathlib.Core.Bool.{Bool, true, false, not, _&&_, cond}
-use mathlib.Core.List.{List, [], _∷_, map}
+use mathlib.Core.List.{List, [], _∷_}
 use lib.ListN.{length, getD, drop}
 use lib.Dec.{eqb, leb, ltb}
 use Rattle.wcsp.specs.Sign.{full}
 use Rattle.wcsp.specs.Clause.{same}
 use Rattle.wcsp.specs.Row.{Row}
-use Rattle.words.specs.declared.Word.{Word}
-use Rattle.words.specs.declared.Word.the-variants.{Head, Size, Binding, Cost, Signs, Weight, Step, Easting, Northing, Count, Unknown}
-use Rattle.words.specs.Meaning.{wordOf}
-use Rattle.input.specs.Instance.{sizeIn, variablesIn}
-use Rattle.table.specs.Layout.{rowsAt, rowWidth, capacity}
-use Rattle.table.specs.Meaning.{variablesOf, domains, rowCount, rowFrom, tableRows}
+use Rattle.words.specs.Layout.{kindOf, indexIn}
+use Rattle.fields.specs.Front.{headIn, headed, goodSizes}
+use Rattle.table.specs.Form.{TableForm}
+use Rattle.table.specs.Raws.{tableForm}
+use Rattle.table.specs.Layout.{rowsAt, capacityIn}
+use Rattle.table.specs.Meaning.{domains, rowCount, tableRowsIn}
+
+-- ---- words by their kinds
 
 -- the sign word of index k
-unfoldable pub isSigns : ℕ → Word → Bool
-isSigns k (Head n) = false
-isSigns k (Size d) = false
-isSigns k (Binding v a) = false
-isSigns k (Cost c) = false
-isSigns k (Signs j x) = eqb j k
-isSigns k (Weight w) = false
-isSigns k (Step s i j) = false
-isSigns k (Easting p) = false
-isSigns k (Northing p) = false
-isSigns k (Count c) = false
-isSigns k Unknown = false
+abbrev pub isSigns : ℕ → ℕ → Bool
+isSigns k w = eqb (kindOf w) 5 && eqb (indexIn w) k
 
--- a weight of at least 1
-unfoldable pub isWeight : Word → Bool
-isWeight (Head n) = false
-isWeight (Size d) = false
-isWeight (Binding v a) = false
-isWeight (Cost c) = false
-isWeight (Signs j x) = false
-isWeight (Weight w) = leb 1 w
-isWeight (Step s i j) = false
-isWeight (Easting p) = false
-isWeight (Northing p) = false
-isWeight (Count c) = false
-isWeight Unknown = false
+abbrev pub isCount : ℕ → Bool
+isCount w = eqb (kindOf w) 10
 
-unfoldable pub isCount : Word → Bool
-isCount (Head n) = false
-isCount (Size d) = false
-isCount (Binding v a) = false
-isCount (Cost c) = false
-isCount (Signs j x) = false
-isCount (Weight w) = false
-isCount (Step s i j) = false
-isCount (Easting p) = false
-isCount (Northing p) = false
-isCount (Count c) = true
-isCount Unknown = false
+-- the four words in front are the sign words of a row, in order
+unfoldable pub signKinds : List ℕ → Bool
+signKinds ws = isSigns 0 (getD ws 0 0) && isSigns 1 (getD ws 1 0) && isSigns 2 (getD ws 2 0) && isSigns 3 (getD ws 3 0)
 
--- k station words stand in front
-unfoldable pub validSizes : ℕ → List ℕ → Bool
-validSizes zero ws = true
-validSizes (suc k) ws = not (eqb (sizeIn (wordOf (getD ws 0 0))) 0) && validSizes k (drop 1 ws)
+-- ---- rows
 
 -- no sign is full or beyond its variable's values
 unfoldable pub validSigns : List ℕ → List ℕ → Bool
@@ -72,21 +41,15 @@ allBelow [] y = true
 allBelow (S ∷ x) [] = true
 allBelow (S ∷ x) (T ∷ y) = ltb S T && allBelow x y
 
--- the five words in front are four sign words, in order, and a weight
-unfoldable pub rowKinds : List ℕ → Bool
-rowKinds ws =
-    isSigns 0 (wordOf (getD ws 0 0)) && isSigns 1 (wordOf (getD ws 1 0)) && isSigns 2 (wordOf (getD ws 2 0))
-    && isSigns 3 (wordOf (getD ws 3 0)) && isWeight (wordOf (getD ws 4 0))
+-- the words in front are a row's: sign words, the weight's words, and signs in range
+unfoldable pub validRowIn : TableForm → List ℕ → List ℕ → Bool
+unfolding signKinds validSigns
+validRowIn f ds ws = signKinds ws && f .weighs ws && validSigns ds (f .rowOf (f .rows .read ws 0) .signs)
 
--- the five words in front are a row's
-unfoldable pub validRow : List ℕ → List ℕ → Bool
-unfolding rowKinds validSigns
-validRow ds ws = rowKinds ws && validSigns ds (rowFrom ws .signs)
-
-unfoldable pub validRows : List ℕ → ℕ → List ℕ → Bool
-unfolding validRow
-validRows ds zero ws = true
-validRows ds (suc k) ws = validRow ds ws && validRows ds k (drop rowWidth ws)
+unfoldable pub validRowsIn : TableForm → List ℕ → ℕ → List ℕ → Bool
+unfolding validRowIn
+validRowsIn f ds zero ws = true
+validRowsIn f ds (suc k) ws = validRowIn f ds ws && validRowsIn f ds k (drop (f .rows .width) ws)
 
 -- a row of these signs is among the rows; no two rows have equal signs
 unfoldable pub hasSigns : List ℕ → List Row → Bool
@@ -102,11 +65,43 @@ unfoldable pub allZero : List ℕ → Bool
 allZero [] = true
 allZero (w ∷ ws) = eqb w 0 && allZero ws
 
-unfoldable pub validTable : List ℕ → Bool
-unfolding validSizes validRows distinctRows allZero
-validTable t =
-    let n = variablesIn (wordOf (getD t 0 0)) in
-    let k = rowCount t in
-    not (eqb n 0) && leb (rowsAt n) (length t) && validSizes n (drop 1 t) && isCount (wordOf (getD t (n + 1) 0))
-    && leb k (capacity (length t) n) && validRows (domains t) k (drop (rowsAt n) t) && distinctRows (tableRows t)
-    && allZero (drop (rowsAt n + rowWidth * k) t)
+-- ---- tables over n variables, in the sentences of document 01
+
+-- "Table: head, n station words, row count, rows": these words are there, behind the head
+abbrev pub validFront : List ℕ → ℕ → Bool
+validFront t n = leb (rowsAt n) (length t) && goodSizes n (drop 1 t) && isCount (getD t (n + 1) 0)
+
+-- "at most capacity rows"
+abbrev pub withinCapacity : TableForm → List ℕ → ℕ → Bool
+withinCapacity f t n = leb (rowCount t) (capacityIn f (length t) n)
+
+-- "these words and ranges", "no sign that is full or beyond its station's spots, no sign for stations from n on":
+-- a station from n on has one spot, whose only sign that is not full is 0
+abbrev pub rowsInRange : TableForm → List ℕ → ℕ → Bool
+rowsInRange f t n = validRowsIn f (domains t) (rowCount t) (drop (rowsAt n) t)
+
+-- "no two rows with equal signs"
+abbrev pub noTwoEqual : TableForm → List ℕ → Bool
+noTwoEqual f t = distinctRows (tableRowsIn f t)
+
+-- "zero words past the last row"
+abbrev pub zeroPast : TableForm → List ℕ → ℕ → Bool
+zeroPast f t n = allZero (drop (rowsAt n + f .rows .width * rowCount t) t)
+
+unfoldable pub validTableIn : TableForm → List ℕ → Bool
+unfolding validRowsIn distinctRows allZero
+validTableIn f t =
+    headed false
+    (λ n. validFront t n && withinCapacity f t n && rowsInRange f t n && noTwoEqual f t && zeroPast f t n)
+    (headIn (getD t 0 0))
+
+-- ---- in the form that every table has
+
+abbrev pub validRow : List ℕ → List ℕ → Bool
+validRow ds ws = validRowIn tableForm ds ws
+
+abbrev pub validRows : List ℕ → ℕ → List ℕ → Bool
+validRows ds k ws = validRowsIn tableForm ds k ws
+
+abbrev pub validTable : List ℕ → Bool
+validTable t = validTableIn tableForm t

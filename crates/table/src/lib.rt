@@ -1,20 +1,26 @@
-// Tables that a caller hands in: valid or not, and the shape of a valid one.
+// Tables that a caller hands in: valid or not, the shape of a valid one, and its empty row's weight.
 ghost use mathlib.Core.Path.{_≡_};
-ghost use mathlib.Core.Bool.{_&&_};
+ghost use mathlib.Core.Bool.{true, _&&_};
 ghost use mathlib.Core.List.{List};
 ghost use Prim.Native.Nat.{ℕ, _+_, _*_, _<_, _≤_};
 ghost use lib.ListN.{length, drop};
 ghost use Rattle.wcsp.specs.Sign.{full};
+ghost use Rattle.wcsp.specs.Row.{emptyWeight};
 ghost use Rattle.words.specs.Layout.{unpacked};
-ghost use Rattle.words.specs.Meaning.{wordOf};
 ghost use Rattle.clause.specs.Packed.{signsOf, Packed, FullSigns};
-ghost use Rattle.input.specs.Instance.{sizeIn, variablesIn};
-ghost use Rattle.table.specs.Layout.{capacity};
-ghost use Rattle.table.specs.Meaning.{rowsFrom};
-ghost use Rattle.table.specs.Valid.{validSigns, rowKinds, validRow, validRows, distinctRows, allZero, allBelow};
+ghost use Rattle.fields.specs.Limits.{maxVariables, maxValues};
+ghost use Rattle.fields.specs.Front.{headIn, headed, sizeIn};
+ghost use Rattle.rows.specs.Raw.{rowWidth};
+ghost use Rattle.table.specs.declared.Head.the-variants.{Variables, Absent};
+ghost use Rattle.table.specs.Layout.{maxRows, rowsAt, capacity};
+ghost use Rattle.table.specs.Meaning.{variablesOf, rowCount, rowsFrom, tableRows};
+ghost use Rattle.table.specs.Valid.{signKinds, validSigns, validRow, validRows, distinctRows, allZero, allBelow, validTable};
 ghost use Rattle.table.specs.Check.{fullsFrom, checkTable};
 use clause::Clause;
 use rows::Found;
+
+// The most rows of a table.
+pub const MAX_ROWS: usize = 4096;
 
 // A valid table's number of variables, number of rows, and the full signs of twelve variables.
 pub struct Shape {
@@ -28,6 +34,12 @@ pub enum Checked {
     Invalid,
 }
 
+// The number of variables that a head gives.
+enum Head {
+    Variables(usize),
+    Absent,
+}
+
 // The full signs of the sizes that the station words give.
 pub enum Fulls {
     Signs(Clause),
@@ -36,7 +48,7 @@ pub enum Fulls {
 
 // The full sign of d values.
 pub fn full_sign(d: u32) -> u32
-    requires { ⌜ d ≤ 8 ⌝ }
+    requires { ⌜ d ≤ maxValues ⌝ }
     ensures { λ r. ⌜ (r ≡ full d) × (r < 256) ⌝ }
 {
     (1u32 << d) - 1
@@ -44,42 +56,45 @@ pub fn full_sign(d: u32) -> u32
 
 // How many rows a slice of this length takes over n variables.
 pub fn room(len: usize, n: usize) -> usize
-    requires { ⌜ n + 2 ≤ len ⌝ }
-    ensures { λ r. ⌜ (r ≡ capacity len n) × (r ≤ 4096) ⌝ }
+    requires { ⌜ rowsAt n ≤ len ⌝ }
+    ensures { λ r. ⌜ (r ≡ capacity len n) × (r ≤ maxRows) ⌝ }
 {
-    let rows = (len - n - 2) / 5;
-    if 4096 < rows {
-        return 4096;
+    let rows = (len - n - 2) / rows::WIDTH;
+    if MAX_ROWS < rows {
+        return MAX_ROWS;
     }
     rows
 }
 
 // The domain size that a station word gives, 0 if it is none from 1 to 8.
 fn size_in(w: u32) -> u32
-    ensures { λ r. ⌜ (r ≡ sizeIn (wordOf w)) × (r ≤ 8) ⌝ }
+    ensures { λ r. ⌜ (r ≡ sizeIn w) × (r ≤ maxValues) ⌝ }
 {
-    if w / 268435456 != 2 {
+    if words::kind(w) != 2 {
         return 0;
     }
-    let d = w % 268435456;
-    if 8 < d {
+    let d = words::payload(w);
+    if fields::MAX_VALUES < d {
         return 0;
     }
     d
 }
 
-// The number of variables that a head gives, 0 if it is none from 1 to 12.
-fn variables_in(w: u32) -> u32
-    ensures { λ r. ⌜ (r ≡ variablesIn (wordOf w)) × (r ≤ 12) ⌝ }
+// The number of variables that the word gives, if it is a head of 1 to 12.
+fn head_in(w: u32) -> Head
+    ensures { λ r. ⌜ r ≡ headed Absent Variables (headIn w) ⌝ }
 {
-    if w / 268435456 != 1 {
-        return 0;
+    if words::kind(w) != 1 {
+        return Head::Absent;
     }
-    let n = w % 268435456;
-    if 12 < n {
-        return 0;
+    let n = words::payload(w) as usize;
+    if n < 1 {
+        return Head::Absent;
     }
-    n
+    if fields::MAX_VARIABLES < n {
+        return Head::Absent;
+    }
+    Head::Variables(n)
 }
 
 // The signs of the block each lie below the full one beside it.
@@ -113,10 +128,10 @@ fn signs_valid(x: Clause, fulls: Clause) -> bool
     block_below(x.d, fulls.d)
 }
 
-// The five words at this place are four sign words, in order, and a weight of at least 1.
-fn kinds_valid(t: &[u32], at: usize) -> bool
-    requires { ⌜ at + 5 ≤ length (now t) ⌝ }
-    ensures { λ r. ⌜ r ≡ rowKinds (drop at (now (t .entry))) ⌝ }
+// The four words at this place are sign words, in order.
+fn signs_there(t: &[u32], at: usize) -> bool
+    requires { ⌜ at + rowWidth ≤ length (now t) ⌝ }
+    ensures { λ r. ⌜ r ≡ signKinds (drop at (now (t .entry))) ⌝ }
 {
     if t[at] / 16777216 != 80 {
         return false;
@@ -127,21 +142,18 @@ fn kinds_valid(t: &[u32], at: usize) -> bool
     if t[at + 2] / 16777216 != 82 {
         return false;
     }
-    if t[at + 3] / 16777216 != 83 {
-        return false;
-    }
-    if t[at + 4] / 268435456 != 6 {
-        return false;
-    }
-    t[at + 4] % 268435456 != 0
+    t[at + 3] / 16777216 == 83
 }
 
-// The five words at this place are a row's.
+// The words at this place are a row's.
 fn row_valid(t: &[u32], at: usize, fulls: Clause) -> bool
-    requires { ⌜ (at + 5 ≤ length (now t)) × Packed fulls ⌝ }
+    requires { ⌜ (at + rowWidth ≤ length (now t)) × Packed fulls ⌝ }
     ensures { λ r. ⌜ ((ds : List ℕ) → FullSigns fulls ds → r ≡ validRow ds (drop at (now (t .entry)))) ⌝ }
 {
-    if !kinds_valid(t, at) {
+    if !signs_there(t, at) {
+        return false;
+    }
+    if !rows::weight_there(t, at) {
         return false;
     }
     signs_valid(rows::clause_of(t, at, 0), fulls)
@@ -149,7 +161,7 @@ fn row_valid(t: &[u32], at: usize, fulls: Clause) -> bool
 
 // Every row is one, and none has the signs of an earlier row.
 fn rows_valid(t: &[u32], base: usize, count: usize, fulls: Clause) -> bool
-    requires { ⌜ (base + 5 * count ≤ length (now t)) × Packed fulls ⌝ }
+    requires { ⌜ (base + rowWidth * count ≤ length (now t)) × Packed fulls ⌝ }
     ensures { λ r. ⌜ ((ds : List ℕ) → FullSigns fulls ds → r ≡ (validRows ds count (drop base (now (t .entry))) && distinctRows (rowsFrom count (drop base (now (t .entry)))))) ⌝ }
 {
     let mut k = 0;
@@ -162,14 +174,14 @@ fn rows_valid(t: &[u32], base: usize, count: usize, fulls: Clause) -> bool
         let Found::Missing = found else {
             return false;
         };
-        at += 5;
+        at += rows::WIDTH;
         k += 1;
     }
     true
 }
 
 // Every word from this place on is 0.
-fn zero_from(t: &[u32], at: usize) -> bool
+fn all_zero_from(t: &[u32], at: usize) -> bool
     requires { ⌜ at ≤ length (now t) ⌝ }
     ensures { λ r. ⌜ r ≡ allZero (drop at (now (t .entry))) ⌝ }
 {
@@ -185,7 +197,7 @@ fn zero_from(t: &[u32], at: usize) -> bool
 
 // The full signs of twelve variables, n of them with the sizes of the words behind the head, or a word there that is no size.
 fn read_fulls(t: &[u32], n: usize) -> Fulls
-    requires { ⌜ (n + 1 ≤ length (now t)) × (n ≤ 12) ⌝ }
+    requires { ⌜ (n + 1 ≤ length (now t)) × (n ≤ maxVariables) ⌝ }
     ensures { λ r. ⌜ r ≡ fullsFrom n (drop 1 (now (t .entry))) ⌝ }
 {
     let mut fulls = Clause {
@@ -210,13 +222,12 @@ fn read_fulls(t: &[u32], n: usize) -> Fulls
 pub fn check(t: &[u32]) -> Checked
     ensures { λ r. ⌜ r ≡ checkTable (now (t .entry)) ⌝ }
 {
-    if t.len() < 3 {
+    if t.len() == 0 {
         return Checked::Invalid;
     }
-    let n = variables_in(t[0]) as usize;
-    if n == 0 {
+    let Head::Variables(n) = head_in(t[0]) else {
         return Checked::Invalid;
-    }
+    };
     if t.len() < n + 2 {
         return Checked::Invalid;
     }
@@ -224,10 +235,10 @@ pub fn check(t: &[u32]) -> Checked
         return Checked::Invalid;
     };
     let word = t[n + 1];
-    if word / 268435456 != 10 {
+    if words::kind(word) != 10 {
         return Checked::Invalid;
     }
-    let count = (word % 268435456) as usize;
+    let count = words::payload(word) as usize;
     if room(t.len(), n) < count {
         return Checked::Invalid;
     }
@@ -235,7 +246,7 @@ pub fn check(t: &[u32]) -> Checked
     if !rows_valid(t, base, count, fulls) {
         return Checked::Invalid;
     }
-    if !zero_from(t, base + 5 * count) {
+    if !all_zero_from(t, base + rows::WIDTH * count) {
         return Checked::Invalid;
     }
     Checked::Table(Shape {
@@ -243,4 +254,16 @@ pub fn check(t: &[u32]) -> Checked
         count,
         fulls,
     })
+}
+
+// The empty row's weight in a valid table, 0 if there is none.
+pub fn empty_weight(t: &[u32], base: usize, count: usize) -> u64
+    requires { ⌜ (validTable (now t) ≡ true) × (base ≡ variablesOf (now t) + 2) × (count ≡ rowCount (now t)) ⌝ }
+    ensures { λ r. ⌜ r ≡ emptyWeight maxVariables (tableRows (now (t .entry))) ⌝ }
+{
+    let found = rows::find(t, base, count, Clause::empty());
+    let Found::At(k) = found else {
+        return 0;
+    };
+    rows::weight_of(t, base, k)
 }

@@ -3,12 +3,12 @@
 use Prim.Native.Nat.{ℕ, _+_, _*_, _≤_}
 use native.Mathlib.Nat.{mul-le-mul-left}
 use native.Mathlib.Omega.{arith}
-use mathlib.Core.Path.{ap}
+use mathlib.Core.Path.{_≡_, ap}
 use mathlib.Core.Bool.{Bool, true, false, cond}
 use mathlib.Core.List.{List}
-use Rattle.wcsp.specs.Clause.{falsifies}
+use Rattle.wcsp.specs.Clause.{InRange, falsifies}
 use Rattle.wcsp.specs.Row.{Row, falsified, ValidRows, nilRows, consRows}
-use Rattle.wcsp.specs.Entry.{cost, encoded}
+use Rattle.wcsp.specs.Entry.{Entry, cost, encoded}
 use Rattle.wcsp.specs.Resolve.{Steps, stop, step}
 use Rattle.wcsp.specs.Bound.{assignments, squares, grade, graded, potential, rowBound, stepBound}
 use Rattle.wcsp.specs.Theorems.{StepsBounded, InstanceBounded}
@@ -47,11 +47,16 @@ steps-le {ds} {rs} v (step {k = k} pr e t) =
 pub stepsBounded : StepsBounded
 stepsBounded ds rs rs′ k v t = omega (arith, steps-le v t, potential-le v)
 
-pub instanceBounded : InstanceBounded
+-- rows with the costs as falsified weight have the number that is fixed by the instance
+pub bound-fixed : (ds : List ℕ) (es : List Entry) (rs : List Row) → ((p : List ℕ) → InRange ds p → falsified p rs ≡ cost es p)
+    → rowBound ds rs ≡ stepBound ds es
 unfolding rowBound stepBound
+bound-fixed ds es rs h = ap (λ n. squares ds * n) (assignments-eq ds (λ p. falsified p rs) (cost es) h)
+
+pub instanceBounded : InstanceBounded
 instanceBounded ds es rs′ k a w t =
     omega (
       arith,
       stepsBounded ds (encoded ds es) rs′ k (encodingValid ds es a w) t,
-      ap (λ n. squares ds * n) (assignments-eq ds (λ p. falsified p (encoded ds es)) (cost es) (λ p r. encodingExact ds es p w r)),
+      bound-fixed ds es (encoded ds es) (λ p r. encodingExact ds es p w r),
     )

@@ -1,11 +1,11 @@
 -- From an encoding to the least cost: permitted steps conserve every assignment's cost, and once no pair is left the empty row's weight is attained.
-use mathlib.Core.Path.{_≡_, sym, subst, _∙_}
+use mathlib.Core.Path.{sym, subst, _∙_}
 use Rattle.wcsp.specs.Theorems.{SaturatedIsLeast}
 use Rattle.wcsp.proofs.Encoding.{encodingValid, encodingExact}
 use Rattle.wcsp.proofs.Conservation.{replayConserves}
 use Rattle.wcsp.proofs.Completeness.{optimality}
-use Rattle.wcsp.specs.Entry.{encoded, cost}
-use Rattle.wcsp.specs.Row.{falsified, emptyWeight}
+use Rattle.wcsp.specs.Entry.{encoded}
+use Rattle.wcsp.specs.Row.{emptyWeight}
 use Rattle.wcsp.specs.Rebuild.{rebuilt}
 use Prim.Native.Nat.{ℕ, _≤_}
 use lib.ListN.{length}

@@ -1,4 +1,4 @@
--- Equality of clauses as a test, and lists that go along together: equal lengths, and the relation at each place.
+-- Tests joined, equality of clauses as a test, and lists that go along together: equal lengths, and the relation at each place.
 use Prim.Native.Nat.{ℕ, zero, suc, _<_}
 use native.Mathlib.Nat.{le-of-suc-le-suc}
 use native.Mathlib.Omega.{arith}
@@ -17,6 +17,14 @@ and-left false b e = e
 pub and-right : (a b : Bool) → (a && b) ≡ true → b ≡ true
 and-right true b e = e
 and-right false b e = absurd (false≢true e)
+
+pub both-true : (a b : Bool) → a ≡ true → b ≡ true → (a && b) ≡ true
+both-true true b e f = f
+both-true false b e f = e
+
+pub ne-true : (b : Bool) → (b ≡ true → ⊥) → b ≡ false
+ne-true true n = absurd (n refl)
+ne-true false n = refl
 
 pub or-left : (a b : Bool) → (a || b) ≡ false → a ≡ false
 or-left true b e = e

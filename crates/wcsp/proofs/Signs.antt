@@ -5,11 +5,18 @@ use native.Mathlib.Numerals.{one-add}
 use native.Mathlib.Omega.{arith}
 use mathlib.Core.Path.{_≡_, refl, sym, ap, ap₂, _∙_}
 use mathlib.Core.Bool.{Bool, true, false, not, _&&_, _||_, false≢true}
+use mathlib.Core.List.{List, map}
+use lib.ListN.{getD, List·getD-map}
 use lib.Bits.{bitAnd, bitOr, and-step, or-step, and-shr, or-shr, and-le-l, or-lt}
 use lib.Pow.{shr-shr, pow-pos, pow-lt, lt-of-le-ones, le-ones}
 use lib.Dec.{eqb, eqb·zero-suc, eqb·suc-zero, eqb·suc-suc}
 use borrow.Author.Tests.{eqb-true, eqb-false, eq-eqb}
 use Rattle.wcsp.specs.Sign.{has, full, complement, within, lowest}
+
+-- the full sign at a place of a list of full signs; past the last both are 0
+pub full-at : (ds : List ℕ) (v : ℕ) → getD (map full ds) v 0 ≡ full (getD ds v 0)
+unfolding full
+full-at ds v = List·getD-map full ds v 0
 
 -- ---- one digit
 

@@ -9,7 +9,7 @@ use lib.ListN.{length, getD}
 use lib.Dec.{eqb, ltb}
 use borrow.Author.Tests.{ltb-false, le-ltb}
 use Rattle.wcsp.specs.Clause.{same}
-use Rattle.wcsp.specs.Row.{Row, weightOf, ValidRows}
+use Rattle.wcsp.specs.Row.{Row, weightOf, heavy, ValidRows}
 use Rattle.wcsp.specs.Resolve.{Pair, noRow, lessen, movedWeight, resolve, Permitted}
 use Rattle.wcsp.proofs.Lists.{same-refl, same-eq, or-left, or-right}
 use Rattle.wcsp.proofs.EmptyRow.{weightOf-same, weightOf-other, weightOf-absent}
@@ -17,11 +17,6 @@ use Rattle.wcsp.proofs.Linear.{lessen-below}
 use Rattle.wcsp.proofs.Adding.{member, hasRow, rowOf, raised, fresh, Single, nilSingle, consSingle, single, has-absent, other-at}
 use Rattle.wcsp.proofs.Raising.{raised-other}
 use Rattle.wcsp.proofs.AsWritten.{keptOf, outcome, lessened, resolve-as-written}
-
--- some row weighs more than L
-unfoldable pub heavy : ℕ → List Row → Bool
-heavy L [] = false
-heavy L (r ∷ rs) = ltb L (r .weight) || heavy L rs
 
 -- some clause would weigh more than L, with u more than now
 unfoldable pub heavyAny : ℕ → ℕ → List (List ℕ) → List Row → Bool

@@ -1,10 +1,9 @@
 -- Small cases worked by hand that each pin one part of the rule: without it a count, a weight or a row is another one.
-use Prim.Native.Nat.{ℕ}
 use mathlib.Core.Path.{_≡_, refl}
-use mathlib.Core.List.{List, [], _∷_}
-use Rattle.wcsp.specs.Sign.{has, full, complement, within, present}
+use mathlib.Core.List.{[], _∷_}
+use Rattle.wcsp.specs.Sign.{has, full, complement, present}
 use Rattle.wcsp.specs.Clause.{falsifies, same}
-use Rattle.wcsp.specs.Row.{Row, falsified, merge}
+use Rattle.wcsp.specs.Row.{falsified, merge}
 use Rattle.wcsp.specs.Rule.{joined, metAt, excluding, conclusions}
 use Rattle.wcsp.specs.Resolve.{lessen}
 use Rattle.wcsp.specs.Theorems.{falsifiedCount}

@@ -1,9 +1,10 @@
 -- Rows: weighted clauses, in the order of the table. The falsified weight, and adding a clause (document 004, Definition 28: repeated clauses add up).
-use Prim.Native.Nat.{ℕ, zero, suc, _+_, _<_}
+use Prim.Native.Nat.{ℕ, zero, _+_, _<_}
 use mathlib.Core.Path.{_≡_}
-use mathlib.Core.Bool.{Bool, true, false, cond}
+use mathlib.Core.Bool.{Bool, false, _||_, cond}
 use mathlib.Core.List.{List, [], _∷_}
-use lib.ListN.{length, replicate}
+use lib.ListN.{replicate}
+use lib.Dec.{ltb}
 use Rattle.wcsp.specs.Clause.{ValidClause, falsifies, tautology, same}
 
 pub record Row : Type 0 where
@@ -24,6 +25,11 @@ weightOf c (r ∷ rs) = cond (same (r .signs) c) (r .weight) (weightOf c rs)
 unfoldable pub emptyWeight : ℕ → List Row → ℕ
 unfolding weightOf
 emptyWeight n rs = weightOf (replicate n 0) rs
+
+-- some row weighs more than L
+unfoldable pub heavy : ℕ → List Row → Bool
+heavy L [] = false
+heavy L (r ∷ rs) = ltb L (r .weight) || heavy L rs
 
 -- the clause with weight u beside the rows: where a row has the same signs the weight is added there, else a new row stands last
 unfoldable pub merge : ℕ → List Row → List ℕ → List Row

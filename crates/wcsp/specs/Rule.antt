@@ -1,6 +1,6 @@
 -- The resolution rule on two clauses at variable s (document 000, Definition 19.10), and when document 01 permits it.
 use Prim.Native.Nat.{ℕ, zero, suc}
-use mathlib.Core.Bool.{Bool, true, false, not, _&&_, _||_, cond}
+use mathlib.Core.Bool.{Bool, false, not, _&&_, _||_, cond}
 use mathlib.Core.List.{List, [], _∷_, _++_, map}
 use lib.ListN.{length, getD}
 use lib.Bits.{bitAnd, bitOr}

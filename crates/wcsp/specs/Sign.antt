@@ -1,5 +1,5 @@
 -- Signs: sets of values as bit masks. Bit v of a sign stands for value v; the sign 0 holds no value ("absent").
-use Prim.Native.Nat.{ℕ, zero, suc, _+_, _-_, _/_, _%_, _^_}
+use Prim.Native.Nat.{ℕ, zero, suc, _-_, _/_, _%_, _^_}
 use mathlib.Core.Bool.{Bool, not, cond}
 use lib.Bits.{bitAnd}
 use lib.Dec.{eqb}

@@ -1,10 +1,10 @@
--- A word that is read as a kind with its fields is the word made from them, and the fields are within their bits. What a kind and payload say is put into one view, whose cases give kind and payload back.
+-- A word that is read as a kind with its fields has that kind's number and those fields, and is the word made from them. What a kind and payload say is put into one view, whose cases give kind and payload back.
 use Prim.Native.Nat.{ℕ, zero, suc, _+_, _-_, _*_, _/_, _%_, _<_}
 use native.Mathlib.Omega.{arith}
 use mathlib.Core.Path.{_≡_, refl}
 use Rattle.words.specs.declared.Word.{Word}
 use Rattle.words.specs.declared.Word.the-variants.{Head, Size, Binding, Cost, Signs, Weight, Step, Easting, Northing, Count, Unknown}
-use Rattle.words.specs.Layout.{kindOf, payloadOf, headWord, sizeWord, bindingWord, costWord, signsWord, weightWord, stepWord, countWord}
+use Rattle.words.specs.Layout.{kindOf, payloadOf, headWord, sizeWord, bindingWord, variableIn, valueIn, costWord, signsWord, indexIn, blockIn, weightWord, stepWord, stepVariableIn, firstRowIn, secondRowIn, countWord}
 use Rattle.words.specs.Meaning.{ofKind, wordOf}
 use Rattle.words.proofs.Reading.{by-parts, unknown-else}
 
@@ -52,21 +52,30 @@ whole w k p e f = omega arith
 head-parts : {k p n : ℕ} → Says k p (Head n) → (k ≡ 1) × (p ≡ n)
 head-parts says-head = (refl, refl)
 
+pub head-kind : (w n : ℕ) → wordOf w ≡ Head n → (kindOf w ≡ 1) × (payloadOf w ≡ n)
+head-kind w n e = head-parts (said w (Head n) e)
+
 pub head-inverse : (w n : ℕ) → wordOf w ≡ Head n → (w ≡ headWord n) × (n < 268435456)
-head-inverse w n e = let s = head-parts (said w (Head n) e) in whole w 1 n (s .0) (s .1)
+head-inverse w n e = let s = head-kind w n e in whole w 1 n (s .0) (s .1)
 
 size-parts : {k p d : ℕ} → Says k p (Size d) → (k ≡ 2) × (p ≡ d)
 size-parts says-size = (refl, refl)
 
+pub size-kind : (w d : ℕ) → wordOf w ≡ Size d → (kindOf w ≡ 2) × (payloadOf w ≡ d)
+size-kind w d e = size-parts (said w (Size d) e)
+
 pub size-inverse : (w d : ℕ) → wordOf w ≡ Size d → (w ≡ sizeWord d) × (d < 268435456)
-size-inverse w d e = let s = size-parts (said w (Size d) e) in whole w 2 d (s .0) (s .1)
+size-inverse w d e = let s = size-kind w d e in whole w 2 d (s .0) (s .1)
 
 binding-parts : {k p v a : ℕ} → Says k p (Binding v a) → (k ≡ 3) × (p / 256 ≡ v) × (p % 256 ≡ a)
 binding-parts says-binding = (refl, refl, refl)
 
+pub binding-kind : (w v a : ℕ) → wordOf w ≡ Binding v a → (kindOf w ≡ 3) × (variableIn w ≡ v) × (valueIn w ≡ a)
+binding-kind w v a e = binding-parts (said w (Binding v a) e)
+
 pub binding-inverse : (w v a : ℕ) → wordOf w ≡ Binding v a → (w ≡ bindingWord v a) × (a < 256) × (v < 1048576)
 binding-inverse w v a e =
-    let s = binding-parts (said w (Binding v a) e) in
+    let s = binding-kind w v a e in
     let p : ℕ = payloadOf w in
     let t = whole w 3 p (s .0) refl in
     omega arith
@@ -74,47 +83,68 @@ binding-inverse w v a e =
 cost-parts : {k p c : ℕ} → Says k p (Cost c) → (k ≡ 4) × (p ≡ c)
 cost-parts says-cost = (refl, refl)
 
+pub cost-kind : (w c : ℕ) → wordOf w ≡ Cost c → (kindOf w ≡ 4) × (payloadOf w ≡ c)
+cost-kind w c e = cost-parts (said w (Cost c) e)
+
 pub cost-inverse : (w c : ℕ) → wordOf w ≡ Cost c → (w ≡ costWord c) × (c < 268435456)
-cost-inverse w c e = let s = cost-parts (said w (Cost c) e) in whole w 4 c (s .0) (s .1)
+cost-inverse w c e = let s = cost-kind w c e in whole w 4 c (s .0) (s .1)
 
 signs-parts : {k p i x : ℕ} → Says k p (Signs i x) → (k ≡ 5) × (p / 16777216 ≡ i) × (p % 16777216 ≡ x)
 signs-parts says-signs = (refl, refl, refl)
 
+pub signs-kind : (w k x : ℕ) → wordOf w ≡ Signs k x → (kindOf w ≡ 5) × (indexIn w ≡ k) × (blockIn w ≡ x)
+signs-kind w k x e = signs-parts (said w (Signs k x) e)
+
 pub signs-inverse : (w k x : ℕ) → wordOf w ≡ Signs k x → (w ≡ signsWord k x) × (x < 16777216) × (k < 16)
 signs-inverse w k x e =
-    let s = signs-parts (said w (Signs k x) e) in
+    let s = signs-kind w k x e in
     let t = whole w 5 (payloadOf w) (s .0) refl in
     omega arith
 
 weight-parts : {k p u : ℕ} → Says k p (Weight u) → (k ≡ 6) × (p ≡ u)
 weight-parts says-weight = (refl, refl)
 
+pub weight-kind : (w u : ℕ) → wordOf w ≡ Weight u → (kindOf w ≡ 6) × (payloadOf w ≡ u)
+weight-kind w u e = weight-parts (said w (Weight u) e)
+
 pub weight-inverse : (w u : ℕ) → wordOf w ≡ Weight u → (w ≡ weightWord u) × (u < 268435456)
-weight-inverse w u e = let s = weight-parts (said w (Weight u) e) in whole w 6 u (s .0) (s .1)
+weight-inverse w u e = let s = weight-kind w u e in whole w 6 u (s .0) (s .1)
 
 step-parts : {k p s i j : ℕ} → Says k p (Step s i j) → (k ≡ 7) × (p / 16777216 ≡ s) × (p / 4096 % 4096 ≡ i) × (p % 4096 ≡ j)
 step-parts says-step = (refl, refl, refl, refl)
 
+pub step-kind : (w s i j : ℕ) → wordOf w ≡ Step s i j → (kindOf w ≡ 7) × (stepVariableIn w ≡ s) × (firstRowIn w ≡ i) × (secondRowIn w ≡ j)
+step-kind w s i j e = step-parts (said w (Step s i j) e)
+
 pub step-inverse : (w s i j : ℕ) → wordOf w ≡ Step s i j → (w ≡ stepWord s i j) × (s < 16) × (i < 4096) × (j < 4096)
 step-inverse w s i j e =
-    let f = step-parts (said w (Step s i j) e) in
+    let f = step-kind w s i j e in
     let t = whole w 7 (payloadOf w) (f .0) refl in
     omega arith
 
 easting-parts : {k p q : ℕ} → Says k p (Easting q) → (k ≡ 8) × (p ≡ q)
 easting-parts says-easting = (refl, refl)
 
+pub easting-kind : (w p : ℕ) → wordOf w ≡ Easting p → (kindOf w ≡ 8) × (payloadOf w ≡ p)
+easting-kind w p e = easting-parts (said w (Easting p) e)
+
 pub easting-inverse : (w p : ℕ) → wordOf w ≡ Easting p → (w ≡ 8 * 268435456 + p) × (p < 268435456)
-easting-inverse w p e = let s = easting-parts (said w (Easting p) e) in whole w 8 p (s .0) (s .1)
+easting-inverse w p e = let s = easting-kind w p e in whole w 8 p (s .0) (s .1)
 
 northing-parts : {k p q : ℕ} → Says k p (Northing q) → (k ≡ 9) × (p ≡ q)
 northing-parts says-northing = (refl, refl)
 
+pub northing-kind : (w p : ℕ) → wordOf w ≡ Northing p → (kindOf w ≡ 9) × (payloadOf w ≡ p)
+northing-kind w p e = northing-parts (said w (Northing p) e)
+
 pub northing-inverse : (w p : ℕ) → wordOf w ≡ Northing p → (w ≡ 9 * 268435456 + p) × (p < 268435456)
-northing-inverse w p e = let s = northing-parts (said w (Northing p) e) in whole w 9 p (s .0) (s .1)
+northing-inverse w p e = let s = northing-kind w p e in whole w 9 p (s .0) (s .1)
 
 count-parts : {k p n : ℕ} → Says k p (Count n) → (k ≡ 10) × (p ≡ n)
 count-parts says-count = (refl, refl)
 
+pub count-kind : (w k : ℕ) → wordOf w ≡ Count k → (kindOf w ≡ 10) × (payloadOf w ≡ k)
+count-kind w k e = count-parts (said w (Count k) e)
+
 pub count-inverse : (w k : ℕ) → wordOf w ≡ Count k → (w ≡ countWord k) × (k < 268435456)
-count-inverse w k e = let s = count-parts (said w (Count k) e) in whole w 10 k (s .0) (s .1)
+count-inverse w k e = let s = count-kind w k e in whole w 10 k (s .0) (s .1)

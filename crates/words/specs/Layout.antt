@@ -1,8 +1,8 @@
 -- The words of document 01: how each one is made. A word's kind is its top four bits, its payload the low 28; unnamed bits are zero.
-use Prim.Native.Nat.{ℕ, zero, suc, _+_, _-_, _*_, _/_, _%_, _^_}
-use mathlib.Core.Bool.{Bool, cond}
+use Prim.Native.Nat.{ℕ, _+_, _-_, _*_, _/_, _%_}
+use mathlib.Core.Bool.{cond}
 use mathlib.Core.List.{List, [], _∷_}
-use lib.Dec.{leb, ltb}
+use lib.Dec.{leb}
 
 abbrev pub kindOf : ℕ → ℕ
 kindOf w = w / 268435456
@@ -22,6 +22,13 @@ sizeWord d = 2 * 268435456 + d
 abbrev pub bindingWord : ℕ → ℕ → ℕ
 bindingWord v a = 3 * 268435456 + v * 256 + a
 
+-- the variable and the value of a binding; a set unnamed bit shows as a variable from 16 or a value from 8 on
+abbrev pub variableIn : ℕ → ℕ
+variableIn w = payloadOf w / 256
+
+abbrev pub valueIn : ℕ → ℕ
+valueIn w = payloadOf w % 256
+
 -- kind 4: a cost
 abbrev pub costWord : ℕ → ℕ
 costWord c = 4 * 268435456 + c
@@ -38,6 +45,13 @@ unpacked x = x % 256 ∷ x / 256 % 256 ∷ x / 65536 ∷ []
 abbrev pub signsWord : ℕ → ℕ → ℕ
 signsWord k x = 5 * 268435456 + k * 16777216 + x
 
+-- the index of a sign word, and its three signs
+abbrev pub indexIn : ℕ → ℕ
+indexIn w = payloadOf w / 16777216
+
+abbrev pub blockIn : ℕ → ℕ
+blockIn w = payloadOf w % 16777216
+
 -- kind 6: a row's weight
 abbrev pub weightWord : ℕ → ℕ
 weightWord w = 6 * 268435456 + w
@@ -45,6 +59,16 @@ weightWord w = 6 * 268435456 + w
 -- kind 7: a step, variable in bits 24-27, first row in bits 12-23, second row in bits 0-11
 abbrev pub stepWord : ℕ → ℕ → ℕ → ℕ
 stepWord s i j = 7 * 268435456 + s * 16777216 + i * 4096 + j
+
+-- the variable, the first row and the second row of a step
+abbrev pub stepVariableIn : ℕ → ℕ
+stepVariableIn w = payloadOf w / 16777216
+
+abbrev pub firstRowIn : ℕ → ℕ
+firstRowIn w = payloadOf w / 4096 % 4096
+
+abbrev pub secondRowIn : ℕ → ℕ
+secondRowIn w = payloadOf w % 4096
 
 -- the payload of a coordinate, 28-bit two's complement of the offset less 1,000,000
 unfoldable pub coordinatePayload : ℕ → ℕ

@@ -1,7 +1,7 @@
 -- What a word says, by its kind, and what a coordinate's payload says.
-use Prim.Native.Nat.{ℕ, zero, suc, _+_, _-_, _*_, _/_, _%_, _^_}
-use mathlib.Core.Bool.{Bool, cond}
-use lib.Dec.{eqb, leb, ltb}
+use Prim.Native.Nat.{ℕ, _+_, _-_, _/_, _%_}
+use mathlib.Core.Bool.{cond}
+use lib.Dec.{eqb, leb}
 use Rattle.words.specs.declared.Word.{Word}
 use Rattle.words.specs.declared.Word.the-variants.{Head, Size, Binding, Cost, Signs, Weight, Step, Easting, Northing, Count, Unknown}
 use Rattle.words.specs.declared.Coordinate.{Coordinate}

@@ -1,29 +1,31 @@
--- `clear` writes zeros behind the front, then the sizes, the head and the count 0: the words of a table without rows.
+-- `clear` writes zeros behind the sizes, then the front and the count 0: the words of a table without rows.
 use borrow.Author.Needs.{needs}
 use native.Mathlib.Omega.{arith}
 use lib.ListN.{take}
 use lib.Seq.{length-take-le}
-use Rattle.encoding.proofs.Clearing.{cleared, cleared-long, cleared-room}
+use Rattle.encoding.proofs.Clearing.{zeroed-asks, cleared, cleared-long, cleared-room}
 use Rattle.encoding.proofs.clear.Statement.{statement}
 use Rattle.encoding.proofs.clear.Tie as tie
 
-slice-write-t-2 : tie.Need-slice-write-t-2
-slice-write-t-2 c =
-    let w = c .before .before .before .before in
-    let s = w .before .before .before .before .before .before .before in
-    cleared-room _ _ _ _ (take (s .args .n) (s .args .sizes .now)) (length-take-le (s .args .n) (s .args .sizes .now) (omega arith)) (omega arith) (w .before .before .before .before .zero-from .ensures) (w .write-sizes .ensures) _
+slice-write-t : tie.Need-slice-write-t
+slice-write-t c =
+    let s = c .before .before .before .before .before .before .before .before .before .before in
+    cleared-room _ _ _ (take (s .args .n) (s .args .sizes .now)) (s .args .n) (length-take-le (s .args .n) (s .args .sizes .now) (omega arith)) (omega arith) (c .before .before .before .before .before .before .before .zero-from .ensures) (c .before .before .before .write-front .ensures)
 
 same-length : tie.Need-same-length
 same-length c =
-    let w = c .before .before .before .before in
-    let s = w .before .before .before .before .before .before .before in
-    cleared-long _ _ _ _ (take (s .args .n) (s .args .sizes .now)) (length-take-le (s .args .n) (s .args .sizes .now) (omega arith)) (omega arith) (w .before .before .before .before .zero-from .ensures) (w .write-sizes .ensures) _ _
+    let s = c .before .before .before .before .before .before .before .before .before .before in
+    cleared-long _ _ _ (take (s .args .n) (s .args .sizes .now)) (s .args .n) (length-take-le (s .args .n) (s .args .sizes .now) (omega arith)) (omega arith) (c .before .before .before .before .before .before .before .zero-from .ensures) (c .before .before .before .write-front .ensures) _
+
+write-front-requires : tie.Need-write-front-requires
+write-front-requires c κs =
+    let s = c .before .before .before .before .before .before in
+    zeroed-asks _ _ (s .args .n) (omega arith) (c .before .before .before .zero-from .ensures) (s .pre .0) (s .pre .1)
 
 returns : tie.Need-returns
 returns c =
-    let w = c .before .before .before .before in
-    let s = w .before .before .before .before .before .before .before in
-    cleared _ _ _ _ _ (length-take-le (s .args .n) (s .args .sizes .now) (omega arith)) (omega arith) (w .before .before .before .before .zero-from .ensures) (w .write-sizes .ensures) _ _ (c .before .head .ensures) (c .count .ensures)
+    let s = c .before .before .before .before .before .before .before .before .before .before in
+    cleared _ _ _ _ (s .args .n) (length-take-le (s .args .n) (s .args .sizes .now) (omega arith)) (omega arith) (c .before .before .before .before .before .before .before .zero-from .ensures) (c .before .before .before .write-front .ensures) _ (c .count .ensures)
 
 pub clear-spec : {M : Type 1} → statement M
 clear-spec =
@@ -31,13 +33,10 @@ clear-spec =
     (tie.spec
     (λ c. search needs)
     (λ c κs. search needs)
-    (λ c κs. search needs)
-    (λ c. search needs)
-    (λ c κs. search needs)
-    (λ c. search needs)
+    write-front-requires
     (λ c κs. search needs)
     (λ c. search needs)
     (λ c. search needs)
-    slice-write-t-2
+    slice-write-t
     same-length
     returns)

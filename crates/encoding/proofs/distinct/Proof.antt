@@ -2,6 +2,7 @@
 use Prim.Native.Nat.{_-_}
 use borrow.Author.Needs.{needs}
 use native.Mathlib.Omega.{arith}
+use mathlib.Core.Path.{refl}
 use lib.ListN.{length}
 use Rattle.clause.specs.Packed.{signsOf}
 use Rattle.encoding.proofs.Looking.{Counted, counted-start, counted-next, counted-end, proper-read}
@@ -19,27 +20,26 @@ loop-holds c = counted-start _ _ _ _ (c .before .before .pre .0) (c .empty .ensu
 
 fresh-requires : tie.Need-fresh-requires Inv-loop μ-loop
 fresh-requires c κs =
-    let l = c .before .before .before in
+    let l = c .before .before in
     let p = l .before .before .before .pre in
     (l .loop .inv .«open» .from, l .loop .inv .upto, p .1, l .loop .inv .«open» .holds .packed, p .2)
 
 add-count : tie.Need-add-count Inv-loop μ-loop
-add-count c = omega (arith, c .fresh .ensures .1, c .before .before .before .before .loop .inv .few)
+add-count c = omega (arith, c .fresh .ensures .1, c .before .before .before .loop .inv .few)
 
 signs-after-requires : tie.Need-signs-after-requires Inv-loop μ-loop
 signs-after-requires c κs =
-    let l = c .before .before .before .before in
+    let l = c .before .before .before in
     let p = l .before .before .before .pre in (
       l .loop .inv .«open» .holds .packed,
       p .1,
-      proper-read (p .2) _ (l .loop .inv .«open» .from) (c .before .before .before .loop-test .taken) _ (c .before .read .ensures),
+      proper-read (p .2) _ (l .loop .inv .«open» .from) (c .before .before .loop-test .taken) _ refl,
     )
 
 loop-again : tie.Need-loop-again Inv-loop μ-loop
 loop-again c =
-    let l = c .before .before .before .before .before in
-    counted-next _ _ _ _ _ _ (l .loop .inv) (c .before .before .before .before .loop-test .taken) _ (c .before .before .read .ensures) _ (c .before .fresh .ensures)
-    _ (c .signs-after .ensures)
+    let l = c .before .before .before .before in
+    counted-next _ _ _ _ _ _ (l .loop .inv) (c .before .before .before .loop-test .taken) _ refl _ (c .before .fresh .ensures) _ (c .signs-after .ensures)
 
 returns : tie.Need-returns Inv-loop μ-loop
 returns c = counted-end _ _ _ _ _ _ (c .before .loop .inv) (omega arith)
@@ -54,7 +54,6 @@ distinct-spec =
     loop-holds
     (λ c. search needs)
     (λ c. search needs)
-    (λ c κs. search needs)
     fresh-requires
     add-count
     signs-after-requires

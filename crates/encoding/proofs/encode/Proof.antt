@@ -1,4 +1,5 @@
 -- `encode` answers for the whole from the answers of its parts: one law for each way out.
+use Prim.Native.Nat.{_≤_}
 use borrow.Author.Needs.{needs}
 use borrow.Author.Tests.{not-true, not-false}
 use native.Mathlib.Omega.{arith}
@@ -72,8 +73,9 @@ encode-entries-requires c κs =
     (not-false _ (c .before .before .before .before .before .before .if3 .left)) _ (c .before .before .before .clear .ensures) in
     (f .full-signs .ensures .packed, e)
 
-cast-count : tie.Need-cast-count
-cast-count c =
+-- the rows written are at most what the slice takes
+count-within : (c : tie.After-slice-known3) → c .before .before .encode-entries .result ≤ 4096
+count-within c =
     let f = c .before .before .before .before .before .before .before .before .before .before .before .before in
     let v = f .before .before .before .before .before .before in
     let s = v .before .before .before in
@@ -86,19 +88,11 @@ cast-count c =
     (not-false _ (c .before .before .before .before .before .before .before .before .before .if3 .left)) _ (c .before .before .before .before .before .before .clear .ensures) _ _ (c .before .before .encode-entries .ensures) in
     omega (arith, c .before .before .before .before .before .before .before .before .before .before .before .room .ensures .1)
 
+cast-count : tie.Need-cast-count
+cast-count c = let h = count-within c in omega arith
+
 count-requires : tie.Need-count-requires
-count-requires c κs =
-    let f = c .before .before .before .before .before .before .before .before .before .before .before .before in
-    let v = f .before .before .before .before .before .before in
-    let s = v .before .before .before in
-    let ws = s .args .instance .now in
-    let t = s .args .t .now in
-    let z = f .before .before .before .before .before .if1 .left in
-    let long = f .before .before .before .if2 .left in
-    let k =
-    count-small ws t _ (v .validate .ensures) z long _ (f .full-signs .ensures) _ (c .before .before .before .before .before .before .before .before .before .before .before .room .ensures .0) _ (c .before .before .before .before .before .before .before .before .before .before .has-room .ensures)
-    (not-false _ (c .before .before .before .before .before .before .before .before .before .if3 .left)) _ (c .before .before .before .before .before .before .clear .ensures) _ _ (c .before .before .encode-entries .ensures) in
-    omega (arith, c .before .before .before .before .before .before .before .before .before .before .before .room .ensures .1)
+count-requires c κs = let h = count-within c in omega arith
 
 same-length : tie.Need-same-length
 same-length c =

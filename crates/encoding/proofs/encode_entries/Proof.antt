@@ -2,6 +2,7 @@
 use Prim.Native.Nat.{_-_}
 use borrow.Author.Needs.{needs}
 use native.Mathlib.Omega.{arith}
+use mathlib.Core.Path.{refl}
 use lib.ListN.{length}
 use Rattle.clause.specs.Packed.{signsOf}
 use Rattle.table.proofs.Twelve.{twelve-signsOf}
@@ -23,24 +24,24 @@ loop-holds c =
 
 add-requires : tie.Need-add-requires Inv-loop μ-loop
 add-requires c κs =
-    let l = c .before .before .before .before .before in
+    let l = c .before .before .before .before in
     let s = l .before .before .before .before in
-    addable _ _ _ _ _ (twelve-signsOf _ (s .pre .0)) (s .pre .1) _ _ _ _ (l .loop .inv) (c .before .before .before .before .loop-test .taken) _ (c .before .before .read .ensures) _ (c .cost-of .ensures)
+    addable _ _ _ _ _ (twelve-signsOf _ (s .pre .0)) (s .pre .1) _ _ _ _ (l .loop .inv) (c .before .before .before .loop-test .taken) _ refl _ (c .cost-of .ensures)
 
 signs-after-requires : tie.Need-signs-after-requires Inv-loop μ-loop
 signs-after-requires c κs =
-    let l = c .before .before .before .before .before .before .before .before in
+    let l = c .before .before .before .before .before .before .before in
     let s = l .before .before .before .before in (
       l .loop .inv .«open» .holds .packed,
       s .pre .0,
-      proper-read (s .pre .1 .proper) _ (l .loop .inv .«open» .from) (c .before .before .before .before .before .before .before .loop-test .taken) _ (c .before .before .before .before .before .read .ensures),
+      proper-read (s .pre .1 .proper) _ (l .loop .inv .«open» .from) (c .before .before .before .before .before .before .loop-test .taken) _ refl,
     )
 
 loop-again : tie.Need-loop-again Inv-loop μ-loop
 loop-again c =
-    let l = c .before .before .before .before .before .before .before .before .before in
+    let l = c .before .before .before .before .before .before .before .before in
     let s = l .before .before .before .before in
-    written-next _ _ _ _ _ (twelve-signsOf _ (s .pre .0)) (s .pre .1) _ _ _ _ (l .loop .inv) (c .before .before .before .before .before .before .before .before .loop-test .taken) _ (c .before .before .before .before .before .before .read .ensures) _ (c .before .before .before .before .cost-of .ensures)
+    written-next _ _ _ _ _ (twelve-signsOf _ (s .pre .0)) (s .pre .1) _ _ _ _ (l .loop .inv) (c .before .before .before .before .before .before .before .loop-test .taken) _ refl _ (c .before .before .before .before .cost-of .ensures)
     _ _ (c .before .before .before .add .ensures) _ (c .signs-after .ensures)
 
 returns : tie.Need-returns Inv-loop μ-loop
@@ -59,7 +60,7 @@ encode-entries-spec =
     (λ c. search needs)
     (λ c. search needs)
     (λ c κs. search needs)
-    (λ c κs. search needs)
+    (λ c. search needs)
     add-requires
     signs-after-requires
     (λ c. search needs)

@@ -2,7 +2,7 @@
 use Prim.Native.Nat.{_+_, _-_, _≤_}
 use borrow.Author.Needs.{needs}
 use native.Mathlib.Omega.{arith}
-use mathlib.Core.Path.{_≡_}
+use mathlib.Core.Path.{_≡_, refl}
 use mathlib.Core.Logic.{⊎-elim}
 use lib.ListN.{length, drop}
 use Rattle.encoding.specs.Coding.{positives}
@@ -18,11 +18,11 @@ abbrev μ-loop : tie.MeasureT-loop
 
 loop-again : tie.Need-loop-again Inv-loop μ-loop
 loop-again c =
-    let u = c .before .before .before .before .before in
+    let u = c .before .before .before .before in
     let ws = u .before .before .args .instance .now in
     ⊎-elim
-    (λ w. (positive-more ws _ _ (u .loop .i) (u .loop .inv .0) _ _ (c .before .before .before .before .loop-test .taken) (c .before .before .read .ensures) (c .before .cost-of .ensures) _ (w .0 .taken) (w .1), omega arith))
-    (λ w. (positive-same ws _ _ (u .loop .i) (u .loop .inv .0) _ _ (c .before .before .before .before .loop-test .taken) (c .before .before .read .ensures) (c .before .cost-of .ensures) _ (w .0 .left) (w .1), omega arith))
+    (λ w. (positive-more ws _ _ (u .loop .i) (u .loop .inv .0) _ _ (c .before .before .before .loop-test .taken) refl (c .before .cost-of .ensures) _ (w .0 .taken) (w .1), omega arith))
+    (λ w. (positive-same ws _ _ (u .loop .i) (u .loop .inv .0) _ _ (c .before .before .before .loop-test .taken) refl (c .before .cost-of .ensures) _ (w .0 .left) (w .1), omega arith))
     (c .if1 .came)
 
 returns : tie.Need-returns Inv-loop μ-loop
@@ -37,7 +37,6 @@ positive-spec =
     (λ c. omega arith)
     (λ c. search needs)
     (λ c. search needs)
-    (λ c κs. search needs)
     (λ c κs. search needs)
     (λ c. search needs)
     (λ c. search needs)

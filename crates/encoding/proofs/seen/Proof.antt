@@ -2,6 +2,7 @@
 use Prim.Native.Nat.{_-_, _≤_}
 use borrow.Author.Needs.{needs}
 use native.Mathlib.Omega.{arith}
+use mathlib.Core.Path.{refl}
 use Rattle.clause.specs.Packed.{signsOf}
 use Rattle.encoding.proofs.Looking.{Unseen, unseen-start, unseen-next, seen-here, seen-not, proper-read}
 use Rattle.encoding.proofs.seen.Statement.{statement}
@@ -17,23 +18,23 @@ loop-holds : tie.Need-loop-holds Inv-loop μ-loop
 loop-holds c = (unseen-start _ _ _ _ _ (c .empty .ensures), omega arith)
 
 adds-requires : tie.Need-adds-requires Inv-loop μ-loop
-adds-requires c κs = (c .before .before .before .loop .inv .0 .«open» .holds .packed, c .before .before .before .before .before .before .pre .3)
+adds-requires c κs = (c .before .before .loop .inv .0 .«open» .holds .packed, c .before .before .before .before .before .pre .3)
 
 returns : tie.Need-returns Inv-loop μ-loop
 returns c =
-    let l = c .before .before .before .before .before in
-    seen-here _ _ _ _ _ _ (l .loop .inv .0) (omega arith) _ (c .before .before .read .ensures) _ (c .before .adds .ensures) _ (omega arith) (c .if1 .taken)
+    let l = c .before .before .before .before in
+    seen-here _ _ _ _ _ _ (l .loop .inv .0) (omega arith) _ refl _ (c .before .adds .ensures) _ (omega arith) (c .if1 .taken)
 
 signs-after-requires : tie.Need-signs-after-requires Inv-loop μ-loop
 signs-after-requires c κs =
-    let l = c .before .before .before .before .before in
+    let l = c .before .before .before .before in
     let p = l .before .before .before .pre in
-    (l .loop .inv .0 .«open» .holds .packed, p .2, proper-read (p .4) _ (l .loop .inv .0 .«open» .from) (omega arith) _ (c .before .before .read .ensures))
+    (l .loop .inv .0 .«open» .holds .packed, p .2, proper-read (p .4) _ (l .loop .inv .0 .«open» .from) (omega arith) _ refl)
 
 loop-again : tie.Need-loop-again Inv-loop μ-loop
 loop-again c =
-    let l = c .before .before .before .before .before .before in (
-      unseen-next _ _ _ _ _ _ (l .loop .inv .0) (omega arith) _ (c .before .before .before .read .ensures) _ (c .before .before .adds .ensures) _ (c .before .if1 .left) (c .signs-after .ensures),
+    let l = c .before .before .before .before .before in (
+      unseen-next _ _ _ _ _ _ (l .loop .inv .0) (omega arith) _ refl _ (c .before .before .adds .ensures) _ (c .before .if1 .left) (c .signs-after .ensures),
       omega arith,
     )
 
@@ -50,7 +51,6 @@ seen-spec =
     loop-holds
     (λ c. search needs)
     (λ c. search needs)
-    (λ c κs. search needs)
     adds-requires
     returns
     signs-after-requires

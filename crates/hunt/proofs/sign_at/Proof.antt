@@ -2,12 +2,13 @@
 use Prim.Native.Nat.{_+_, _*_}
 use native.Mathlib.Omega.{arith}
 use borrow.Author.Needs.{needs}
+use Rattle.rows.specs.Raw.{rowWidth}
 use Rattle.hunt.proofs.OneSign.{one-sign}
 use Rattle.hunt.proofs.sign_at.Statement.{statement}
 use Rattle.hunt.proofs.sign_at.Tie as tie
 
 returns : tie.Need-returns
-returns c = let g = c .before .args in one-sign (g .t .now) (g .base + 5 * g .k) (g .v) (omega arith)
+returns c = let g = c .before .args in one-sign (g .t .now) (g .base + rowWidth * g .k) (g .v) (omega arith)
 
 pub sign-at-spec : {M : Type 1} → statement M
 sign-at-spec =

@@ -19,8 +19,7 @@ same-length-2 c = search needs
 returns : tie.Need-returns
 returns c =
     let called = c .before .before .before .before .before .before .check .ensures in
-    let told = check-told _ _ _ _ (called .0) (c .before .before .note .ensures) in
-    (told .0, called .1, told .1)
+    check-told _ _ _ _ called (c .before .before .note .ensures)
 
 pub gotalhim-check-spec : {M : Type 1} → statement M
 gotalhim-check-spec =

@@ -1,6 +1,6 @@
 -- `library::gotalhim_drive`: the answer's number, with its steps noted, and what the driver upholds where that number is 0.
 use borrow.Author.Needs.{needs}
-use Rattle.library.proofs.Telling.{drive-told, upheld-told}
+use Rattle.library.proofs.Telling.{drive-told}
 use Rattle.library.proofs.gotalhim_drive.Statement.{statement}
 use Rattle.library.proofs.gotalhim_drive.Tie as tie
 
@@ -25,8 +25,7 @@ same-length-4 c = search needs
 returns : tie.Need-returns
 returns c =
     let called = c .before .before .before .before .before .before .before .before .before .before .drive .ensures in
-    let told = drive-told _ _ _ _ (called .0) (c .before .before .note .ensures) in
-    (told .0, called .1, called .2, called .3, told .1, upheld-told _ _ _ _ _ _ (called .0) (called .4))
+    drive-told _ _ _ _ _ _ _ _ called (c .before .before .note .ensures)
 
 pub gotalhim-drive-spec : {M : Type 1} → statement M
 gotalhim-drive-spec =

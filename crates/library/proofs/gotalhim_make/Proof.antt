@@ -1,5 +1,7 @@
 -- `library::gotalhim_make`: the answer's number, with its value noted.
 use borrow.Author.Needs.{needs}
+use mathlib.Core.Path.{ap}
+use Rattle.sheet.specs.Calls.{Made}
 use Rattle.library.proofs.Telling.{answer-told}
 use Rattle.library.proofs.gotalhim_make.Statement.{statement}
 use Rattle.library.proofs.gotalhim_make.Tie as tie
@@ -19,8 +21,8 @@ same-length-2 c = search needs
 returns : tie.Need-returns
 returns c =
     let called = c .before .before .before .before .before .before .make .ensures in
-    let told = answer-told _ _ _ _ (called .0) (c .before .before .note .ensures) in
-    (told .0, called .1, told .1)
+    let told = answer-told _ _ _ _ (ap (λ (m : Made). m .answer) called) (c .before .before .note .ensures) in
+    (told .0, ap (λ (m : Made). m .target) called, told .1)
 
 pub gotalhim-make-spec : {M : Type 1} → statement M
 gotalhim-make-spec =

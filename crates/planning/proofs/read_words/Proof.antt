@@ -1,24 +1,24 @@
 -- `read_words` stores a word each turn: those stored and those of the bytes left are the words of all bytes.
 use Prim.Native.Nat.{_*_, _/_, _-_, _≤_}
 use native.Mathlib.Omega.{arith}
-use mathlib.Core.Path.{_≡_, refl}
+use mathlib.Core.Path.{_≡_, refl, _∙_}
 use mathlib.Core.List.{_++_}
 use lib.ListN.{length, take, drop, length-set}
 use denote.Ref.{now}
-use Rattle.planning.specs.Printed.{wordsIn}
-use Rattle.planning.proofs.Words.{word-stored, words-stored}
+use Rattle.planning.specs.Words.{wordsIn}
+use Rattle.planning.proofs.Words.{word-stored, words-stored, rest-kept}
 use Rattle.planning.proofs.read_words.Statement.{statement}
 use Rattle.planning.proofs.read_words.Tie as tie
 
 abbrev Inv-loop : tie.InvT-loop
 Inv-loop bytes words₀ n i₀ words i =
-    (take i words ++ wordsIn (drop (4 * i) bytes) ≡ wordsIn bytes) × (i ≤ n) × (length words ≡ length words₀)
+    (take i words ++ wordsIn (drop (4 * i) bytes) ≡ wordsIn bytes) × (i ≤ n) × (length words ≡ length words₀) × (drop i words ≡ drop i words₀)
 
 abbrev μ-loop : tie.MeasureT-loop
 μ-loop bytes words₀ n i₀ words i = n - i
 
 loop-holds : tie.Need-loop-holds Inv-loop μ-loop
-loop-holds c = (refl, omega arith, refl)
+loop-holds c = (refl, omega arith, refl, refl)
 
 mul-word-at : tie.Need-mul-word-at Inv-loop μ-loop
 mul-word-at c = omega arith
@@ -42,7 +42,12 @@ loop-again : tie.Need-loop-again Inv-loop μ-loop
 loop-again c =
     let l = c .before .before .loop in
     let a = c .before .before .before .before .before .args in
-    (word-stored (now (a .bytes)) (l .words) (l .i) (l .inv .0) _ (c .word-at .ensures) (omega arith) (omega arith), omega arith, simp length-set (l .inv .2))
+    let w = c .word-at .result in (
+      word-stored (now (a .bytes)) (l .words) (l .i) (l .inv .0) w (c .word-at .ensures) (omega arith) (omega arith),
+      omega arith,
+      length-set (l .words) (l .i) w ∙ l .inv .2,
+      rest-kept (l .words) (now (a .words)) (l .i) w (l .inv .3),
+    )
 
 same-length : tie.Need-same-length Inv-loop μ-loop
 same-length c = c .before .loop .inv .2
@@ -52,7 +57,7 @@ returns c =
     let l = c .before .loop in
     let a = c .before .before .before .before .args in
     let e : l .i ≡ length (now (a .bytes)) / 4 = omega arith in
-    (rw (← e) (words-stored (now (a .bytes)) (l .words) (l .i) (l .inv .0) (omega arith)), refl)
+    (rw (← e) (words-stored (now (a .bytes)) (l .words) (l .i) (l .inv .0) (omega arith)), refl, rw (← e) (l .inv .3))
 
 pub read-words-spec : {M : Type 1} → statement M
 read-words-spec =

@@ -1,7 +1,7 @@
 -- `metres_to` answers the metres to the position that `position` answers, whose coordinates lie within the range.
 use borrow.Author.Needs.{needs}
 use native.Mathlib.Omega.{arith}
-use Rattle.readout.proofs.Positions.{value-within, travel-is}
+use Rattle.sheet.proofs.Placed.{value-within, travel-is}
 use Rattle.readout.proofs.metres_to.Statement.{statement}
 use Rattle.readout.proofs.metres_to.Tie as tie
 

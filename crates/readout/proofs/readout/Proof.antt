@@ -11,20 +11,20 @@ returns : tie.Need-returns
 returns c =
     let a = c .before .before .before .before .before .before .args in
     let r = c .before .before .before .read-sheet in
-    c .refused .ensures ∙ sheet-refused (now (a .sheet)) (now (a .plan)) (a .variable) (a .easting) (a .northing) (r .result) (r .ensures) (c .before .if1 .taken)
+    c .refusal .ensures ∙ sheet-refused (now (a .sheet)) (now (a .plan)) (a .variable) (a .easting) (a .northing) (r .result) (r .ensures) (c .before .if1 .taken)
 
 returns-2 : tie.Need-returns-2
 returns-2 c =
     let a = c .before .before .before .before .before .before .before .before .args in
     let r = c .before .before .before .before .before .read-sheet in
-    c .refused2 .ensures ∙ no-variable (now (a .sheet)) (now (a .plan)) (a .variable) (a .easting) (a .northing) (r .result) (r .ensures) (c .before .before .before .if1 .left) (c .before .if2 .taken)
+    c .refusal2 .ensures ∙ no-variable (now (a .sheet)) (now (a .plan)) (a .variable) (a .easting) (a .northing) (r .result) (r .ensures) (c .before .before .before .if1 .left) (c .before .if2 .taken)
 
 returns-3 : tie.Need-returns-3
 returns-3 c =
     let e = c .before .before .before in
     let r = e .before .before .before .before .before .read-sheet in
     let a = e .before .before .before .before .before .before .before .before .args in
-    c .refused3 .ensures ∙ no-east (now (a .sheet)) (now (a .plan)) (a .variable) (a .easting) (a .northing) (r .result) (r .ensures) (e .before .before .before .if1 .left) (e .before .if2 .left) _ (e .easting-of .ensures) (c .before .enum-told .given .1)
+    c .refusal3 .ensures ∙ no-east (now (a .sheet)) (now (a .plan)) (a .variable) (a .easting) (a .northing) (r .result) (r .ensures) (e .before .before .before .if1 .left) (e .before .if2 .left) _ (e .coordinate .ensures) (c .before .enum-told .given .1)
 
 returns-4 : tie.Need-returns-4
 returns-4 c =
@@ -32,8 +32,8 @@ returns-4 c =
     let e = n .before .before .before .before in
     let r = e .before .before .before .before .before .read-sheet in
     let a = e .before .before .before .before .before .before .before .before .args in
-    c .refused4 .ensures ∙ no-north (now (a .sheet)) (now (a .plan)) (a .variable) (a .easting) (a .northing) (r .result) (r .ensures) (e .before .before .before .if1 .left) (e .before .if2 .left) _ (e .easting-of .ensures)
-    _ (n .before .before .east .given .1) _ (n .northing-of .ensures) (c .before .enum-told2 .given .1)
+    c .refusal4 .ensures ∙ no-north (now (a .sheet)) (now (a .plan)) (a .variable) (a .easting) (a .northing) (r .result) (r .ensures) (e .before .before .before .if1 .left) (e .before .if2 .left) _ (e .coordinate .ensures)
+    _ (n .before .before .east .given .1) _ (n .coordinate2 .ensures) (c .before .enum-told2 .given .1)
 
 is-assignment-requires : tie.Need-is-assignment-requires
 is-assignment-requires c κs =
@@ -49,8 +49,8 @@ returns-5 c =
     let e = n .before .before .before .before in
     let r = e .before .before .before .before .before .read-sheet in
     let a = e .before .before .before .before .before .before .before .before .args in
-    c .refused5 .ensures ∙ no-assignment (now (a .sheet)) (now (a .plan)) (a .variable) (a .easting) (a .northing) (r .result) (r .ensures) (e .before .before .before .if1 .left) (e .before .if2 .left) _ (e .easting-of .ensures)
-    _ (n .before .before .east .given .1) _ (n .northing-of .ensures) _ (s .before .before .before .before .before .north .given .1) _ (s .is-assignment .ensures) (not-true _ (c .before .if3 .taken))
+    c .refusal5 .ensures ∙ no-assignment (now (a .sheet)) (now (a .plan)) (a .variable) (a .easting) (a .northing) (r .result) (r .ensures) (e .before .before .before .if1 .left) (e .before .if2 .left) _ (e .coordinate .ensures)
+    _ (n .before .before .east .given .1) _ (n .coordinate2 .ensures) _ (s .before .before .before .before .before .north .given .1) _ (s .is-assignment .ensures) (not-true _ (c .before .if3 .taken))
 
 shared-slice-read-metres-to : tie.Need-shared-slice-read-metres-to
 shared-slice-read-metres-to c =
@@ -59,8 +59,8 @@ shared-slice-read-metres-to c =
     let e = n .before .before .before .before in
     let r = e .before .before .before .before .before .read-sheet in
     let a = e .before .before .before .before .before .before .before .before .args in
-    value-inside (now (a .sheet)) (now (a .plan)) (a .variable) (a .easting) (a .northing) (r .result) (r .ensures) (e .before .before .before .if1 .left) (e .before .if2 .left) _ (e .easting-of .ensures)
-    _ (n .before .before .east .given .1) _ (n .northing-of .ensures) _ (s .before .before .before .before .before .north .given .1) _ (s .is-assignment .ensures) (not-false _ (c .before .if3 .left))
+    value-inside (now (a .sheet)) (now (a .plan)) (a .variable) (a .easting) (a .northing) (r .result) (r .ensures) (e .before .before .before .if1 .left) (e .before .if2 .left) _ (e .coordinate .ensures)
+    _ (n .before .before .east .given .1) _ (n .coordinate2 .ensures) _ (s .before .before .before .before .before .north .given .1) _ (s .is-assignment .ensures) (not-false _ (c .before .if3 .left))
 
 metres-to-requires : tie.Need-metres-to-requires
 metres-to-requires c κs =
@@ -69,18 +69,18 @@ metres-to-requires c κs =
     let e = n .before .before .before .before in
     let r = e .before .before .before .before .before .read-sheet in
     let a = e .before .before .before .before .before .before .before .before .args in
-    asked (now (a .sheet)) (now (a .plan)) (a .variable) (a .easting) (a .northing) (r .result) (r .ensures) (e .before .before .before .if1 .left) (e .before .if2 .left) _ (e .easting-of .ensures)
-    _ (n .before .before .east .given .1) _ (n .northing-of .ensures) _ (s .before .before .before .before .before .north .given .1) _ (s .is-assignment .ensures) (not-false _ (c .before .if3 .left))
+    asked (now (a .sheet)) (now (a .plan)) (a .variable) (a .easting) (a .northing) (r .result) (r .ensures) (e .before .before .before .if1 .left) (e .before .if2 .left) _ (e .coordinate .ensures)
+    _ (n .before .before .east .given .1) _ (n .coordinate2 .ensures) _ (s .before .before .before .before .before .north .given .1) _ (s .is-assignment .ensures) (not-false _ (c .before .if3 .left))
 
 returns-6 : tie.Need-returns-6
 returns-6 c =
-    let s = c .before .before .before in
+    let s = c .before .before .before .before in
     let n = s .before .before .before .before .before .before .before in
     let e = n .before .before .before .before in
     let r = e .before .before .before .before .before .read-sheet in
     let a = e .before .before .before .before .before .before .before .before .args in
-    metres-read (now (a .sheet)) (now (a .plan)) (a .variable) (a .easting) (a .northing) (r .result) (r .ensures) (e .before .before .before .if1 .left) (e .before .if2 .left) _ (e .easting-of .ensures)
-    _ (n .before .before .east .given .1) _ (n .northing-of .ensures) _ (s .before .before .before .before .before .north .given .1) _ (s .is-assignment .ensures) (not-false _ (c .before .before .if3 .left)) _ (c .metres-to .ensures)
+    c .success .ensures ∙ metres-read (now (a .sheet)) (now (a .plan)) (a .variable) (a .easting) (a .northing) (r .result) (r .ensures) (e .before .before .before .if1 .left) (e .before .if2 .left) _ (e .coordinate .ensures)
+    _ (n .before .before .east .given .1) _ (n .coordinate2 .ensures) _ (s .before .before .before .before .before .north .given .1) _ (s .is-assignment .ensures) (not-false _ (c .before .before .before .if3 .left)) _ (c .before .metres-to .ensures)
 
 pub readout-spec : {M : Type 1} → statement M
 readout-spec =
@@ -108,4 +108,5 @@ readout-spec =
     shared-slice-read-metres-to
     metres-to-requires
     (λ c. search needs)
+    (λ c κs. search needs)
     returns-6)

@@ -1,7 +1,7 @@
 -- `refusal_in` meets its contract: an answer with a number is that refusal and no other, and no step that was made.
 use mathlib.Core.Path.{refl}
 use borrow.Author.Needs.{needs}
-use Rattle.resolution.proofs.Single.{not-made, not-refused, one-number}
+use Rattle.stepping.proofs.Answers.{not-made, not-refused, one-number}
 use Rattle.resolution.proofs.refusal_in.Statement.{statement}
 use Rattle.resolution.proofs.refusal_in.Tie as tie
 

@@ -1,5 +1,5 @@
 -- `resume` meets its contract: the weights that it reads are those of the two rows.
-use Rattle.resolution.proofs.Bounding.{row-room, row-weight}
+use Rattle.table.proofs.Reading.{row-room, row-weight}
 use Rattle.resolution.proofs.Going.{resumed-stays, resumed-anew}
 use Rattle.resolution.proofs.resume.Statement.{statement}
 use Rattle.resolution.proofs.resume.Tie as tie

@@ -5,7 +5,7 @@ use mathlib.Core.Bool.{true}
 use borrow.Author.Needs.{needs}
 use Rattle.table.specs.Valid.{validTable}
 use Rattle.table.specs.Check.{shapeOf}
-use Rattle.resolution.proofs.Single.{table-valid, table-invalid}
+use Rattle.table.proofs.Tested.{table-valid, table-invalid}
 use Rattle.resolution.proofs.Going.{ran-invalid, ran-valid}
 use Rattle.resolution.proofs.run.Statement.{statement}
 use Rattle.resolution.proofs.run.Tie as tie
@@ -39,7 +39,7 @@ lesser-requires c κs = search needs
 run-valid-requires : tie.Need-run-valid-requires
 run-valid-requires c κs =
     let v = valid (c .before .before .before .before) in
-    (v .0, v .1, omega (arith, c .before .lesser .ensures))
+    (v .0, v .1, omega (arith, c .before .before .lesser .ensures))
 
 same-length-2 : tie.Need-same-length-2
 same-length-2 c = search needs
@@ -52,7 +52,7 @@ returns-2 c =
     let r = c .before .before .before .before in
     let k = r .before .before .before .before .before in
     let s = k .before .before .before .before .before .before in
-    ran-valid (s .args .t .now) (s .args .limit) (s .args .slice .now) (valid k .0) _ (r .before .before .lesser .ensures) _ _ _ (r .run-valid .ensures)
+    ran-valid (s .args .t .now) (s .args .limit) (s .args .slice .now) (valid k .0) _ (r .before .before .before .lesser .ensures) _ _ _ (r .run-valid .ensures)
 
 pub run-spec : {M : Type 1} → statement M
 run-spec =

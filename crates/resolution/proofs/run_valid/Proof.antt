@@ -1,16 +1,16 @@
 -- `run_valid` meets its contract: what is kept from turn to turn says that the run still to go is the whole run, and each way out of the loop
 -- is one of its endings.
-use Prim.Native.Nat.{ℕ, _+_, _-_, _<_, _≤_}
+use Prim.Native.Nat.{_+_, _-_, _<_}
 use native.Mathlib.Omega.{arith}
 use mathlib.Core.Path.{_≡_, ap, _∙_}
 use mathlib.Core.Option.{some}
 use borrow.Author.Needs.{needs}
 use lib.ListN.{length}
-use Rattle.wcsp.specs.Resolve.{nextPair, resolve}
+use Rattle.wcsp.specs.Resolve.{nextPair}
 use Rattle.table.specs.Meaning.{variablesOf, rowCount, tableRows, domains}
-use Rattle.table.specs.Check.{fullClause, capacityOf}
-use Rattle.stepping.specs.Step.{allowed, refusing}
-use Rattle.resolution.proofs.Single.{few-variables, shape-front, shape-count, shape-fulls, permitted, Numbers, numbers, advance-made, advance-refused}
+use Rattle.table.specs.Check.{fullClause}
+use Rattle.stepping.proofs.Answers.{advance-made, advance-refused}
+use Rattle.resolution.proofs.Single.{few-variables, shape-front, shape-count, shape-fulls, permitted, Numbers, numbers}
 use Rattle.resolution.proofs.Going.{Going, going-start, hunt-asks, ended-asks, refused-asks, shaped, none-left, one-next, gives-done, gives-paused, gives-refused, going-on}
 use Rattle.resolution.proofs.run_valid.Statement.{statement}
 use Rattle.resolution.proofs.run_valid.Tie as tie

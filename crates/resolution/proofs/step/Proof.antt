@@ -1,5 +1,4 @@
 -- `step` meets its contract: on a valid table the hunt from the first bucket gives the next pair, and the step on it is the call's.
-use Prim.Native.Nat.{ℕ}
 use native.Mathlib.Omega.{arith}
 use mathlib.Core.Path.{_≡_}
 use mathlib.Core.Bool.{true}
@@ -9,7 +8,8 @@ use Rattle.wcsp.specs.Resolve.{nextPair}
 use Rattle.table.specs.Meaning.{rowCount, tableRows, domains}
 use Rattle.table.specs.Valid.{validTable}
 use Rattle.table.specs.Check.{shapeOf}
-use Rattle.resolution.proofs.Single.{table-valid, table-invalid, few-variables, first-asks, first-none, first-some, permitted, Numbers, numbers, called-invalid, called-done, called-refused, called-made}
+use Rattle.table.proofs.Tested.{table-valid, table-invalid}
+use Rattle.resolution.proofs.Single.{few-variables, first-asks, first-none, first-some, permitted, Numbers, numbers, called-invalid, called-done, called-refused, called-made}
 use Rattle.resolution.proofs.step.Statement.{statement}
 use Rattle.resolution.proofs.step.Tie as tie
 

@@ -1,8 +1,9 @@
 -- `append` meets its contract: what `write_row` leaves of the part lent to it, put back, is one more raw row in the table.
 use native.Mathlib.Omega.{arith}
 use borrow.Author.Needs.{needs}
-use Rattle.rows.specs.Raw.{rawRow}
-use Rattle.rows.proofs.Laying.{row-lent}
+use Rattle.rows.specs.Raw.{rawRow, rowForm}
+use Rattle.rows.proofs.Flat.{rowLaws}
+use Rattle.rows.proofs.FormTables.{row-lent}
 use Rattle.rows.proofs.append.Statement.{statement}
 use Rattle.rows.proofs.append.Tie as tie
 
@@ -10,7 +11,7 @@ returns : tie.Need-returns
 returns c =
     let s = c .before .before .before .before .before in
     let g = s .args in
-    row-lent (g .t .now) (g .base) (g .count) (rawRow (g .x) (g .weight)) (c .before .before .write-row .last .0) (s .pre .0) (omega arith) (c .before .before .write-row .ensures)
+    row-lent rowForm rowLaws (g .t .now) (g .base) (g .count) (rawRow (g .x) (g .weight)) (c .before .before .write-row .last .0) (s .pre .0) (omega arith) (c .before .before .write-row .ensures)
 
 pub append-spec : {M : Type 1} → statement M
 append-spec =

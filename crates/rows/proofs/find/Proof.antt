@@ -6,8 +6,7 @@ use mathlib.Core.Bool.{false}
 use mathlib.Core.Logic.{⊎-elim}
 use borrow.Author.Needs.{needs}
 use borrow.Author.Tests.{eqb-true, eqb-false}
-use Rattle.words.specs.Layout.{weightWord}
-use Rattle.rows.specs.Raw.{Raw, rawAt, rawsIn, rawRow, sameSigns, findFrom}
+use Rattle.rows.specs.Raw.{rowWidth, Raw, rawAt, rawsIn, weighing, signWords, rawRow, sameSigns, findFrom}
 use Rattle.rows.proofs.RowWords.{sameSigns-of, sameSigns-a, sameSigns-b, sameSigns-c, sameSigns-d, sameSigns-at, row-of-words}
 use Rattle.rows.proofs.Searching.{find-start, find-here, find-next, find-end}
 use Rattle.rows.proofs.find.Statement.{statement}
@@ -15,11 +14,11 @@ use Rattle.rows.proofs.find.Tie as tie
 
 -- the row that is looked for, as its words are made before the loop
 abbrev words : ℕ → ℕ → ℕ → ℕ → Raw
-words a b c d = record { a = a; b = b; c = c; d = d; w = weightWord 0 }
+words a b c d = weighing (signWords a b c d) 0
 
 abbrev Inv-loop : tie.InvT-loop
 Inv-loop t base count a b c d tell word at₀ k₀ at k =
-    (findFrom (words a b c d) 0 (rawsIn t base count) ≡ findFrom (words a b c d) k (rawsIn t at (count - k))) × (at ≡ base + 5 * k) × (k ≤ count)
+    (findFrom (words a b c d) 0 (rawsIn t base count) ≡ findFrom (words a b c d) k (rawsIn t at (count - k))) × (at ≡ base + rowWidth * k) × (k ≤ count)
 
 abbrev μ-loop : tie.MeasureT-loop
 μ-loop t base count a b c d tell word at₀ k₀ at k = count - k
@@ -43,6 +42,7 @@ as-row l =
     _
     _
     _
+    0
     (m .before .before .before .signs .ensures)
     (m .before .before .signs2 .ensures)
     (m .before .signs3 .ensures)

@@ -1,21 +1,16 @@
--- `reweigh` meets its contract: the word stored is the fifth of row k.
-use native.Mathlib.Omega.{arith}
-use lib.ListN.{drop}
+-- `reweigh` meets its contract: the weight is written behind the sign words of row k.
 use borrow.Author.Needs.{needs}
-use Rattle.rows.specs.Raw.{rawsIn}
-use Rattle.rows.proofs.Flat.{length-rawsFrom}
+use native.Mathlib.Omega.{arith}
 use Rattle.rows.proofs.Stores.{row-reweighed}
 use Rattle.rows.proofs.reweigh.Statement.{statement}
 use Rattle.rows.proofs.reweigh.Tie as tie
 
 returns : tie.Need-returns
 returns c =
-    let s = c .before .before in
+    let s = c .before .before .before .before .before in
     let g = s .args in
-    let n = length-rawsFrom (g .count) (drop (g .base) (g .t .now)) in
-    rw (c .weight .ensures) (row-reweighed (g .t .now) (g .base) (rawsIn (g .t .now) (g .base) (g .count)) (g .k) _ (s .pre .0) (omega arith))
+    row-reweighed (g .t .now) _ (g .base) (g .count) (g .k) (g .weight) (s .pre .0) (omega arith) (c .before .before .write-weight .ensures)
 
 pub reweigh-spec : {M : Type 1} → statement M
 reweigh-spec =
-    tie.close
-    (tie.spec (λ c. search needs) (λ c. search needs) (λ c. search needs) (λ c κs. search needs) (λ c. search needs) (λ c. search needs) (λ c. search needs) returns)
+    tie.close (tie.spec (λ c. search needs) (λ c. search needs) (λ c κs. search needs) (λ c. search needs) returns)

@@ -2,67 +2,74 @@
 use native.Mathlib.Omega.{arith}
 use denote.Ref.{now}
 use borrow.Author.Needs.{needs}
-use Rattle.sheet.proofs.Making.{GoodRead, good-read, Measured, measured, sizes-twelve, long-is, refused-make, short-make, good-make}
+use Rattle.sheet.proofs.Sheets.{good-read}
+use Rattle.sheet.proofs.Making.{measure, sizes-twelve, long-is, refused-make, short-make, good-make}
 use Rattle.sheet.proofs.make.Statement.{statement}
 use Rattle.sheet.proofs.make.Tie as tie
 
 returns : tie.Need-returns
 returns c =
-    let a = c .before .before .before .before .args in
-    refused-make (now (a .sheet)) (now (a .target)) (c .before .read-sheet .result) (c .before .read-sheet .ensures) (c .if1 .taken)
+    let a = c .before .before .before .before .before .args in
+    let r = c .before .before .read-sheet in
+    refused-make (now (a .sheet)) (now (a .target)) (r .result) _ (r .ensures) (c .before .if1 .taken) (c .refusal .ensures)
 
-leg-count-requires : tie.Need-leg-count-requires
-leg-count-requires c κs =
+count-legs-requires : tie.Need-count-legs-requires
+count-legs-requires c κs =
     let a = c .before .before .before .before .before .before .before .args in
     let r = c .before .before .before .before .read-sheet in
     let g = good-read (now (a .sheet)) (r .result) (r .ensures) (c .before .before .before .if1 .left) in
-    let m = measured (now (a .sheet)) _ _ (g .fine) (g .variables) (g .entries) in
-    (m .some, m .few, omega (arith, m .few, sizes-twelve _ (r .result .sizes) (g .sizes) (omega (arith, m .few, g .variables))))
+    let m = measure (now (a .sheet)) _ _ (g .fine) (g .variables) (g .entries) in
+    (m .few, omega (arith, m .few, sizes-twelve _ (r .result .sizes) (g .sizes) (omega (arith, m .few, g .variables))))
 
 sub-long : tie.Need-sub-long
 sub-long c =
     let a = c .before .before .before .before .before .before .before .before .args in
     let r = c .before .before .before .before .before .read-sheet in
     let g = good-read (now (a .sheet)) (r .result) (r .ensures) (c .before .before .before .before .if1 .left) in
-    measured (now (a .sheet)) _ _ (g .fine) (g .variables) (g .entries) .within
+    measure (now (a .sheet)) _ _ (g .fine) (g .variables) (g .entries) .within
 
 returns-2 : tie.Need-returns-2
 returns-2 c =
-    let a = c .before .before .before .before .before .before .before .before .before .args in
-    let r = c .before .before .before .before .before .before .read-sheet in
-    let g = good-read (now (a .sheet)) (r .result) (r .ensures) (c .before .before .before .before .before .if1 .left) in
-    short-make (now (a .sheet)) (now (a .target)) _ (g .fine) (long-is (now (a .sheet)) (r .result) _ g (c .before .leg-count .ensures .0)) (c .if2 .taken)
+    let a = c .before .before .before .before .before .before .before .before .before .before .args in
+    let r = c .before .before .before .before .before .before .before .read-sheet in
+    let g = good-read (now (a .sheet)) (r .result) (r .ensures) (c .before .before .before .before .before .before .if1 .left) in
+    let e = long-is (now (a .sheet)) (r .result) _ g (c .before .before .count-legs .ensures .0) in
+    short-make (now (a .sheet)) (now (a .target)) _ _ (g .fine) e (c .before .if2 .taken) (c .refusal2 .ensures)
 
 write-instance-requires : tie.Need-write-instance-requires
 write-instance-requires c κs =
     let a = c .before .before .before .before .before .before .before .before .before .before .before .args in
     let r = c .before .before .before .before .before .before .before .before .read-sheet in
     let g = good-read (now (a .sheet)) (r .result) (r .ensures) (c .before .before .before .before .before .before .before .if1 .left) in
-    let e = long-is (now (a .sheet)) (r .result) _ g (c .before .before .before .leg-count .ensures .0) in
+    let e = long-is (now (a .sheet)) (r .result) _ g (c .before .before .before .count-legs .ensures .0) in
     (g .fine, (g .sizes, g .variables, g .entries, omega (arith, e, c .before .before .if2 .left)))
 
 returns-3 : tie.Need-returns-3
 returns-3 c =
-    let a = c .before .before .before .before .before .before .before .before .before .before .before .before .before .before .args in
-    let r = c .before .before .before .before .before .before .before .before .before .before .before .read-sheet in
-    let g = good-read (now (a .sheet)) (r .result) (r .ensures) (c .before .before .before .before .before .before .before .before .before .before .if1 .left) in
-    let e = long-is (now (a .sheet)) (r .result) _ g (c .before .before .before .before .before .before .leg-count .ensures .0) in
-    good-make (now (a .sheet)) (now (a .target)) _ _ (g .fine) e (c .before .before .before .before .before .if2 .left) (c .before .before .write-instance .ensures)
+    let a = c .before .before .before .before .before .before .before .before .before .before .before .before .before .before .before .args in
+    let r = c .before .before .before .before .before .before .before .before .before .before .before .before .read-sheet in
+    let g = good-read (now (a .sheet)) (r .result) (r .ensures) (c .before .before .before .before .before .before .before .before .before .before .before .if1 .left) in
+    let e = long-is (now (a .sheet)) (r .result) _ g (c .before .before .before .before .before .before .before .count-legs .ensures .0) in
+    good-make (now (a .sheet)) (now (a .target)) _ _ _ (g .fine) e (c .before .before .before .before .before .before .if2 .left) (c .before .before .before .write-instance .ensures) (c .success .ensures)
 
 pub make-spec : {M : Type 1} → statement M
 make-spec =
     tie.close
     (tie.spec
     (λ c κs. search needs)
+    (λ c κs. search needs)
     returns
     (λ c. search needs)
     (λ c. search needs)
-    leg-count-requires
+    count-legs-requires
+    (λ c. search needs)
     (λ c. search needs)
     (λ c. search needs)
     sub-long
     (λ c. search needs)
+    (λ c κs. search needs)
     returns-2
     write-instance-requires
+    (λ c κs. search needs)
     (λ c. search needs)
     returns-3)

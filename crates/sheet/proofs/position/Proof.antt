@@ -5,7 +5,7 @@ use mathlib.Core.Path.{_≡_, _∙_}
 use denote.Ref.{now}
 use lib.ListN.{length}
 use borrow.Author.Needs.{needs}
-use Rattle.sheet.proofs.Places.{Walked, FitAt, walk-starts, walk-fits, walk-goes, walk-value, walk-finds}
+use Rattle.sheet.proofs.Walking.{Walked, walk-starts, walk-fits, walk-goes, walk-value, walk-finds}
 use Rattle.sheet.proofs.position.Statement.{statement}
 use Rattle.sheet.proofs.position.Tie as tie
 

@@ -5,8 +5,9 @@ use mathlib.Core.Path.{_≡_, refl, _∙_}
 use lib.ListN.{length, length-set}
 use borrow.Author.Needs.{needs}
 use Rattle.conclusions.proofs.Filling.{packed-zeros}
+use Rattle.table.specs.Layout.{maxRows}
 use Rattle.stepping.specs.Turns.{Planned}
-use Rattle.stepping.proofs.Surveying.{Ready, ready-shape}
+use Rattle.table.proofs.Reading.{Ready, ready-shape}
 use Rattle.stepping.proofs.Advancing.{refused, planned-zero, raise-asks, lessen-asks, lessen-asks-first, append-asks, end-bounds, advanced}
 use Rattle.stepping.proofs.advance.Statement.{statement}
 use Rattle.stepping.proofs.advance.Tie as tie
@@ -61,7 +62,7 @@ append-missing-requires c κs =
 
 -- the number of rows and the slice's length, for the count word
 ends : (a : tie.After-append-missing)
-    → (a .append-missing .result ≤ 4096) × (length (a .append-missing .last .0) ≡ length (a .before .before .before .before .before .before .before .before .before .before .before .before .before .before .before .before .before .before .before .before .before .before .before .before .args .t .now))
+    → (a .append-missing .result ≤ maxRows) × (length (a .append-missing .last .0) ≡ length (a .before .before .before .before .before .before .before .before .before .before .before .before .before .before .before .before .before .before .before .before .before .before .before .before .args .t .now))
     × (a .before .before .before .before .before .before .before .before .before .before .before .before .before .before .before .before .before .before .before .before .before .before .before .before .args .shape .variables + 2 ≤ length (a .before .before .before .before .before .before .before .before .before .before .before .before .before .before .before .before .before .before .before .before .before .before .before .before .args .t .now)) × (a .before .before .before .before .before .before .before .before .before .before .before .before .before .before .before .before .before .before .before .before .before .before .before .before .args .shape .variables ≤ 12)
 ends a =
     let second = a .before .before .before .before .before .before in

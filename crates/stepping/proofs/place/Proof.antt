@@ -7,16 +7,14 @@ use Rattle.stepping.proofs.place.Tie as tie
 returns : tie.Need-returns
 returns c =
     let find = c .before .before .before in
-    let s = find .before .before in
-    let g = s .args in
-    place-found (g .t .now) (g .base) (g .count) (g .x) (s .pre .1) _ _ (find .find .ensures) (c .before .found .given .1)
+    let g = find .before .before .args in
+    place-found (g .t .now) (g .base) (g .count) (g .x) _ _ (find .find .ensures) (c .before .found .given .1)
 
 returns-2 : tie.Need-returns-2
 returns-2 c =
     let find = c .before .before in
-    let s = find .before .before in
-    let g = s .args in
-    place-none (g .t .now) (g .base) (g .count) (g .x) (s .pre .1) _ (find .find .ensures) (c .enum-told .given .1)
+    let g = find .before .before .args in
+    place-none (g .t .now) (g .base) (g .count) (g .x) _ (find .find .ensures) (c .enum-told .given .1)
 
 pub place-spec : {M : Type 1} → statement M
 place-spec = tie.close (tie.spec (λ c κs. search needs) (λ c. search needs) (λ c. search needs) returns returns-2)

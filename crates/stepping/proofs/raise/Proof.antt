@@ -2,6 +2,7 @@
 use Prim.Native.Nat.{_+_, _-_, _<_, _≤_}
 use native.Mathlib.Omega.{arith}
 use mathlib.Core.Logic.{⊎-elim}
+use Rattle.rows.specs.Raw.{maxWeight}
 use Rattle.stepping.proofs.Writes.{Raising, raising-start, raising-laid, raising-room, raising-weight, raising-next, raising-skip, raising-end}
 use Rattle.stepping.proofs.raise.Statement.{statement}
 use Rattle.stepping.proofs.raise.Tie as tie
@@ -25,7 +26,7 @@ weight-of-requires c κs =
     omega (arith, raising-room (g .t .now) (g .base) (g .count) (g .places .now) (g .kept) (g .moved) _ _ (l .loop .inv))
 
 -- the sum is the one that the contract bounds
-light : (c : tie.After-reweigh-arg Inv-loop μ-loop) → c .before .weight-of .result + c .before .before .before .before .before .before .before .before .args .moved ≤ 268435455
+light : (c : tie.After-reweigh-arg Inv-loop μ-loop) → c .before .weight-of .result + c .before .before .before .before .before .before .before .before .args .moved ≤ maxWeight
 light c =
     let l = c .before .before .before .before .before .before in
     let s = l .before .before in

@@ -20,8 +20,9 @@ returns : tie.Need-returns Inv-loop μ-loop
 returns c =
     let l = c .before .before .before .before in
     let g = l .before .before .args in
+    let long : g .n ≤ length (drop 1 (g .t .now)) = rw (length-drop 1 (g .t .now)) (omega arith) in
     size-bad (drop 1 (g .t .now)) (g .n) (l .loop .i) _ (l .loop .fulls) (l .loop .inv .1)
-    (behind-head (g .t .now) (l .loop .i) _ (c .before .size-in .ensures .0)) (omega arith) (omega arith)
+    (behind-head (g .t .now) (l .loop .i) _ (c .before .size-in .ensures .0)) (omega arith) long (omega arith)
 
 replaced-requires : tie.Need-replaced-requires Inv-loop μ-loop
 replaced-requires c κs = (c .before .before .before .before .before .loop .inv .1 .packed, omega arith, omega arith)
@@ -33,8 +34,8 @@ loop-again c =
     let long : g .n ≤ length (drop 1 (g .t .now)) = rw (length-drop 1 (g .t .now)) (omega arith) in (
       omega arith,
       filled-more (drop 1 (g .t .now)) (g .n) (l .loop .i) _ (l .loop .fulls) (l .loop .inv .1)
-          (behind-head (g .t .now) (l .loop .i) _ (c .before .before .before .size-in .ensures .0)) (omega arith)
-          (c .before .before .if1 .left) (omega arith) long _ _ (c .before .full-sign .ensures .0) (c .replaced .ensures),
+          (behind-head (g .t .now) (l .loop .i) _ (c .before .before .before .size-in .ensures .0)) (omega arith) long
+          (c .before .before .if1 .left) (omega arith) _ _ (c .before .full-sign .ensures .0) (c .replaced .ensures),
     )
 
 returns-2 : tie.Need-returns-2 Inv-loop μ-loop

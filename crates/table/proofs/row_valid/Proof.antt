@@ -1,21 +1,28 @@
--- `row_valid` meets its contract: the kinds first, then the signs.
+-- `row_valid` meets its contract: the sign words first, then the weight, then the signs.
 use borrow.Author.Needs.{needs}
 use borrow.Author.Tests.{not-true, not-false}
-use Rattle.table.proofs.RowTests.{wrong-kinds, as-signs}
+use Rattle.table.proofs.RowTests.{wrong-signs, wrong-weight, as-signs}
 use Rattle.table.proofs.row_valid.Statement.{statement}
 use Rattle.table.proofs.row_valid.Tie as tie
 
 returns : tie.Need-returns
 returns c =
     let g = c .before .before .before .args in
-    λ ds h. wrong-kinds (g .t .now) (g .at) _ (c .before .kinds-valid .ensures) (not-true _ (c .if1 .taken)) ds
+    λ ds h. wrong-signs (g .t .now) (g .at) _ (c .before .signs-there .ensures) (not-true _ (c .if1 .taken)) ds
 
 returns-2 : tie.Need-returns-2
 returns-2 c =
     let g = c .before .before .before .before .before .args in
-    as-signs (g .t .now) (g .at) _ _ (g .fulls) _ (c .before .before .before .kinds-valid .ensures) (not-false _ (c .before .before .if1 .left))
-    (c .before .clause-of .ensures .0) (c .signs-valid .ensures)
+    λ ds h. wrong-weight (g .t .now) (g .at) _ (c .before .weight-there .ensures) (not-true _ (c .if2 .taken)) ds
+
+returns-3 : tie.Need-returns-3
+returns-3 c =
+    let w = c .before .before .before in
+    let g = w .before .before .before .before .args in
+    as-signs (g .t .now) (g .at) _ _ _ (g .fulls) _ (w .before .before .signs-there .ensures) (not-false _ (w .before .if1 .left))
+    (w .weight-there .ensures) (not-false _ (c .before .before .if2 .left)) (c .before .clause-of .ensures .0) (c .signs-valid .ensures)
 
 pub row-valid-spec : {M : Type 1} → statement M
 row-valid-spec =
-    tie.close (tie.spec (λ c κs. search needs) returns (λ c κs. search needs) (λ c κs. search needs) returns-2)
+    tie.close
+    (tie.spec (λ c κs. search needs) returns (λ c κs. search needs) returns-2 (λ c κs. search needs) (λ c κs. search needs) returns-3)

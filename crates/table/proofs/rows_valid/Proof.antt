@@ -4,19 +4,19 @@ use native.Mathlib.Omega.{arith}
 use mathlib.Core.Path.{_≡_}
 use borrow.Author.Needs.{needs}
 use borrow.Author.Tests.{not-true, not-false}
-use lib.ListN.{drop}
+use Rattle.rows.specs.Raw.{rowWidth}
 use Rattle.table.proofs.RowsTests.{TestedFor, none-tested, row-fails, pair-fails, tested-more, all-pass}
 use Rattle.table.proofs.rows_valid.Statement.{statement}
 use Rattle.table.proofs.rows_valid.Tie as tie
 
 abbrev Inv-loop : tie.InvT-loop
-Inv-loop t base count fulls k₀ at₀ k at = (k ≤ count) × (at ≡ base + 5 * k) × TestedFor fulls (drop base t) k
+Inv-loop t base count fulls k₀ at₀ k at = (k ≤ count) × (at ≡ base + rowWidth * k) × TestedFor fulls t base k
 
 abbrev μ-loop : tie.MeasureT-loop
 μ-loop t base count fulls k₀ at₀ k at = count - k
 
 loop-holds : tie.Need-loop-holds Inv-loop μ-loop
-loop-holds c = (omega arith, omega arith, λ ds h. none-tested ds _)
+loop-holds c = (omega arith, omega arith, λ ds h. none-tested ds _ _)
 
 row-valid-requires : tie.Need-row-valid-requires Inv-loop μ-loop
 row-valid-requires c κs = (omega arith, c .before .before .before .pre .1)

@@ -19,14 +19,14 @@ abbrev μ-loop : tie.MeasureT-loop
 returns : tie.Need-returns Inv-loop μ-loop
 returns c =
     ap Fault (c .stop-in .ensures ∙ ap stopIn (c .before .enum-told .given .1))
-    ∙ scan-stops _ _ _ (c .before .before .before .before .before .before .before .before .before .args .words .now) (c .before .before .before .before .before .before .before .loop .i) _ _ _ (c .before .before .before .before .before .before .loop-test .taken) (c .before .before .before .before .read .ensures) (c .before .before .before .scan-word .ensures)
+    ∙ scan-stops _ _ _ (c .before .before .before .before .before .before .before .before .args .words .now) (c .before .before .before .before .before .before .loop .i) _ _ (c .before .before .before .before .before .loop-test .taken) (c .before .before .before .scan-word .ensures)
     (ap behindOf (c .before .enum-told .given .1))
-    ∙ sym (c .before .before .before .before .before .before .before .loop .inv)
+    ∙ sym (c .before .before .before .before .before .before .loop .inv)
 
 loop-again : tie.Need-loop-again Inv-loop μ-loop
 loop-again c =
-    c .before .before .before .before .before .before .before .loop .inv
-    ∙ scan-goes _ _ _ (c .before .before .before .before .before .before .before .before .before .args .words .now) (c .before .before .before .before .before .before .before .loop .i) _ _ _ _ (c .before .before .before .before .before .before .loop-test .taken) (c .before .before .before .before .read .ensures) (c .before .before .before .scan-word .ensures)
+    c .before .before .before .before .before .before .loop .inv
+    ∙ scan-goes _ _ _ (c .before .before .before .before .before .before .before .before .args .words .now) (c .before .before .before .before .before .before .loop .i) _ _ _ (c .before .before .before .before .before .loop-test .taken) (c .before .before .before .scan-word .ensures)
     (ap behindOf (c .before .behind .given .1))
 
 returns-2 : tie.Need-returns-2 Inv-loop μ-loop
@@ -44,7 +44,6 @@ scan-entries-spec =
     (λ c. refl)
     (λ c. search needs)
     (λ c. search needs)
-    (λ c κs. search needs)
     (λ c κs. search needs)
     (λ c. search needs)
     (λ c. search needs)

@@ -1,33 +1,33 @@
 -- `read_head` answers the number that the next word gives: its way out by the word's kind, then by the two limits.
 use borrow.Author.Needs.{needs}
 use native.Mathlib.Omega.{arith}
-use Rattle.input.proofs.Others.{no-variables}
-use Rattle.input.proofs.Reading.{got-end, got-none, got-some, low, high, within, variables-in}
+use Rattle.words.proofs.Others.{no-head}
+use Rattle.input.proofs.Reading.{by-end, by-word, head-other, head-low, head-high, head-good}
 use Rattle.input.proofs.front.read_head.Statement.{statement}
 use Rattle.input.proofs.front.read_head.Tie as tie
 
 returns : tie.Need-returns
-returns c = got-end 1 _ _ _ (c .before .before .word-at .ensures) (c .enum-told .given .1)
+returns c = by-end _ _ _ _ (c .before .before .word-at .ensures) (c .enum-told .given .1)
 
 returns-2 : tie.Need-returns-2
 returns-2 c =
-    got-none 1 _ _ _ (c .before .before .before .before .word-at .ensures) _ (c .before .before .w .given .1) (no-variables _ (c .match2 .keys2))
+    by-word _ _ _ _ (c .before .before .before .before .before .word-at .ensures) _ _ (c .before .before .before .w .given .1)
+    (head-other _ (no-head _ _ (c .before .read .ensures) (c .match2 .keys2)))
 
 returns-3 : tie.Need-returns-3
 returns-3 c =
-    got-none 1 _ _ _ (c .before .before .before .before .before .before .before .word-at .ensures) _ (c .before .before .before .before .before .w .given .1)
-    (variables-in _ _ 0 (c .before .before .w2 .given .1) (low (c .before .before .w2 .given .0 .0) 12 (omega arith)))
+    by-word _ _ _ _ (c .before .before .before .before .before .before .before .before .word-at .ensures) _ _ (c .before .before .before .before .before .before .w .given .1)
+    (head-low _ _ _ (c .before .before .before .before .read .ensures) (c .before .before .n .given .1) (omega arith))
 
 returns-4 : tie.Need-returns-4
 returns-4 c =
-    got-none 1 _ _ _ (c .before .before .before .before .before .before .before .before .word-at .ensures) _ (c .before .before .before .before .before .before .w .given .1)
-    (variables-in _ _ 0 (c .before .before .before .w2 .given .1) (high (c .before .before .before .w2 .given .0 .0) 12 (omega arith)))
+    by-word _ _ _ _ (c .before .before .before .before .before .before .before .before .before .word-at .ensures) _ _ (c .before .before .before .before .before .before .before .w .given .1)
+    (head-high _ _ _ (c .before .before .before .before .before .read .ensures) (c .before .before .before .n .given .1) (omega arith))
 
 returns-5 : tie.Need-returns-5
 returns-5 c =
-    got-some 1 _ _ _ (c .before .before .before .before .before .before .before .before .word-at .ensures) _ _ (c .before .before .before .before .before .before .w .given .1)
-    (variables-in _ _ _ (c .before .before .before .w2 .given .1) (within _ 12 (omega arith) (omega arith)))
-    (omega arith)
+    by-word _ _ _ _ (c .before .before .before .before .before .before .before .before .before .word-at .ensures) _ _ (c .before .before .before .before .before .before .before .w .given .1)
+    (head-good _ _ _ (c .before .before .before .before .before .read .ensures) (c .before .before .before .n .given .1) (omega arith) (omega arith))
 
 pub read-head-spec : {M : Type 1} → statement M
 read-head-spec =
@@ -37,8 +37,10 @@ read-head-spec =
     (λ c. search needs)
     (λ c. search needs)
     returns
+    (λ c κs. search needs)
     (λ c. search needs)
     returns-2
     returns-3
+    (λ c. search needs)
     returns-4
     returns-5)

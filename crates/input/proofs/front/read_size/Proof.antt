@@ -1,33 +1,33 @@
 -- `read_size` answers the number that the next word gives: its way out by the word's kind, then by the two limits.
 use borrow.Author.Needs.{needs}
 use native.Mathlib.Omega.{arith}
-use Rattle.input.proofs.Others.{no-size}
-use Rattle.input.proofs.Reading.{got-end, got-none, got-some, low, high, within, size-in}
+use Rattle.words.proofs.Others.{no-size}
+use Rattle.input.proofs.Reading.{by-end, by-word, size-other, size-low, size-high, size-good}
 use Rattle.input.proofs.front.read_size.Statement.{statement}
 use Rattle.input.proofs.front.read_size.Tie as tie
 
 returns : tie.Need-returns
-returns c = got-end 2 _ _ _ (c .before .before .word-at .ensures) (c .enum-told .given .1)
+returns c = by-end _ _ _ _ (c .before .before .word-at .ensures) (c .enum-told .given .1)
 
 returns-2 : tie.Need-returns-2
 returns-2 c =
-    got-none 2 _ _ _ (c .before .before .before .before .word-at .ensures) _ (c .before .before .w .given .1) (no-size _ (c .match2 .keys2))
+    by-word _ _ _ _ (c .before .before .before .before .before .word-at .ensures) _ _ (c .before .before .before .w .given .1)
+    (size-other _ (no-size _ _ (c .before .read .ensures) (c .match2 .keys2)))
 
 returns-3 : tie.Need-returns-3
 returns-3 c =
-    got-none 2 _ _ _ (c .before .before .before .before .before .before .before .word-at .ensures) _ (c .before .before .before .before .before .w .given .1)
-    (size-in _ _ 0 (c .before .before .w2 .given .1) (low (c .before .before .w2 .given .0 .0) 8 (omega arith)))
+    by-word _ _ _ _ (c .before .before .before .before .before .before .before .before .word-at .ensures) _ _ (c .before .before .before .before .before .before .w .given .1)
+    (size-low _ _ _ (c .before .before .before .before .read .ensures) (c .before .before .d .given .1) (omega arith))
 
 returns-4 : tie.Need-returns-4
 returns-4 c =
-    got-none 2 _ _ _ (c .before .before .before .before .before .before .before .before .word-at .ensures) _ (c .before .before .before .before .before .before .w .given .1)
-    (size-in _ _ 0 (c .before .before .before .w2 .given .1) (high (c .before .before .before .w2 .given .0 .0) 8 (omega arith)))
+    by-word _ _ _ _ (c .before .before .before .before .before .before .before .before .before .word-at .ensures) _ _ (c .before .before .before .before .before .before .before .w .given .1)
+    (size-high _ _ _ (c .before .before .before .before .before .read .ensures) (c .before .before .before .d .given .1) (omega arith))
 
 returns-5 : tie.Need-returns-5
 returns-5 c =
-    got-some 2 _ _ _ (c .before .before .before .before .before .before .before .before .word-at .ensures) _ _ (c .before .before .before .before .before .before .w .given .1)
-    (size-in _ _ _ (c .before .before .before .w2 .given .1) (within _ 8 (omega arith) (omega arith)))
-    (omega arith)
+    by-word _ _ _ _ (c .before .before .before .before .before .before .before .before .before .word-at .ensures) _ _ (c .before .before .before .before .before .before .before .w .given .1)
+    (size-good _ _ _ (c .before .before .before .before .before .read .ensures) (c .before .before .before .d .given .1) (omega arith) (omega arith))
 
 pub read-size-spec : {M : Type 1} → statement M
 read-size-spec =
@@ -37,6 +37,7 @@ read-size-spec =
     (λ c. search needs)
     (λ c. search needs)
     returns
+    (λ c κs. search needs)
     (λ c. search needs)
     returns-2
     returns-3

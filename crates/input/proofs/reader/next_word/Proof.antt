@@ -8,7 +8,7 @@ returns : tie.Need-returns
 returns c = next-end _ _ (c .if1 .taken)
 
 returns-2 : tie.Need-returns-2
-returns-2 c = next-found _ _ _ (c .before .before .if1 .left) (c .read .ensures)
+returns-2 c = next-found _ _ (c .before .if1 .left)
 
 pub next-word-spec : {M : Type 1} → statement M
-next-word-spec = tie.close (tie.spec returns (λ c. search needs) (λ c. search needs) (λ c κs. search needs) returns-2)
+next-word-spec = tie.close (tie.spec returns (λ c. search needs) (λ c. search needs) returns-2)

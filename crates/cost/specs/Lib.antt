@@ -1,0 +1,3 @@
+-- The cost call: what an assignment costs.
+pub mod Costing
+pub mod Calls

@@ -1,0 +1,7 @@
+-- The laws of this crate that belong to no one function.
+pub mod Fronts
+pub mod Sizes
+pub mod Assigning
+pub mod Padding
+pub mod Costs
+pub mod Faults

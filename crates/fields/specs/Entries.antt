@@ -1,0 +1,48 @@
+-- Entries as words by their kind numbers, and which sizes and entries a field can have.
+use Prim.Native.Nat.{ℕ, _+_, _≤_}
+use mathlib.Core.Bool.{cond}
+use mathlib.Core.List.{List, [], _∷_, _++_}
+use lib.ListN.{length}
+use lib.Dec.{eqb}
+use Rattle.wcsp.specs.Clause.{AllPositive}
+use Rattle.wcsp.specs.Entry.{Binding, Entry, WellFormed, cost}
+use Rattle.words.specs.Layout.{kindOf, payloadOf, variableIn, valueIn}
+use Rattle.fields.specs.Limits.{maxVariables, maxValues, maxEntries, maxCost, greatestCost}
+
+-- the cost that a word gives, 0 if it is no cost word
+unfoldable pub costOf : ℕ → ℕ
+costOf w = cond (eqb (kindOf w) 4) (payloadOf w) 0
+
+-- the entries that words mean, after the bindings of an open entry; what is neither a binding nor a cost is passed over
+unfoldable pub entriesFrom : List Binding → List ℕ → List Entry
+entriesFrom bs [] = []
+entriesFrom bs (w ∷ ws) =
+    cond (eqb (kindOf w) 3) (entriesFrom (bs ++ (record { variable = variableIn w; value = valueIn w } ∷ [])) ws)
+    (cond (eqb (kindOf w) 4) (record { bindings = bs; cost = payloadOf w } ∷ entriesFrom [] ws)
+    (entriesFrom bs ws))
+
+-- P holds of every element
+pub data Each {A : Type 0} (P : A → Type 0) : List A → Type 0 where
+  nilEach : Each P []
+  consEach : {x : A} {xs : List A} → P x → Each P xs → Each P (x ∷ xs)
+
+-- domain sizes, each from 1 to 8
+abbrev pub EachSize : List ℕ → Type 0
+EachSize ds = Each (λ d. (1 ≤ d) × (d ≤ maxValues)) ds
+
+-- sizes of a field: 1 to 12 of them, each 1 to 8
+pub record FieldSizes (ds : List ℕ) : Type 0 where
+  pub least : 1 ≤ length ds
+  pub most : length ds ≤ maxVariables
+  pub each : EachSize ds
+  pub positive : AllPositive ds
+
+-- entries over these sizes, at most so many with those before, and none costs more than the limit
+pub record Entries (ds : List ℕ) (before : ℕ) (es : List Entry) : Type 0 where
+  pub wellFormed : WellFormed ds es
+  pub number : before + length es ≤ maxEntries
+  pub costs : Each (λ e. e .cost ≤ maxCost) es
+
+-- no assignment of them costs more than the greatest cost
+abbrev pub CostsBounded : Type 0
+CostsBounded = (ds : List ℕ) (before : ℕ) (es : List Entry) → Entries ds before es → (p : List ℕ) → cost es p ≤ greatestCost

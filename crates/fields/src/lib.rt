@@ -1,0 +1,97 @@
+// What the crates above share on a field: its sizes' words in front of a slice, a word's cost, assignments, and the answer of a call.
+use words::Word;
+ghost use mathlib.Core.Path.{_≡_};
+ghost use Prim.Native.Nat.{_+_, _<_, _≤_, min};
+ghost use lib.ListN.{length, take};
+ghost use lib.Seq.{sets};
+ghost use Rattle.fields.specs.Limits.{maxVariables};
+ghost use Rattle.fields.specs.Front.{frontWords};
+ghost use Rattle.fields.specs.Entries.{costOf};
+ghost use Rattle.fields.specs.Assignment.{isAssignment};
+ghost use Rattle.fields.specs.Answers.{refused, good};
+
+// The most variables, values and entries of a field, and the greatest cost of an entry.
+pub const MAX_VARIABLES: usize = 12;
+
+pub const MAX_VALUES: u32 = 8;
+
+pub const MAX_ENTRIES: u32 = 4096;
+
+pub const MAX_COST: u32 = 65535;
+
+// A number, 0 for success, and a value, 0 where refused.
+pub struct Answer {
+    pub number: u32,
+    pub value: u64,
+}
+
+pub fn refusal(k: u32) -> Answer
+    ensures { λ r. ⌜ r ≡ refused k ⌝ }
+{
+    Answer {
+        number: k,
+        value: 0,
+    }
+}
+
+pub fn success(v: u64) -> Answer
+    ensures { λ r. ⌜ r ≡ good v ⌝ }
+{
+    Answer {
+        number: 0,
+        value: v,
+    }
+}
+
+pub fn wide(x: u8) -> u32
+    ensures { λ r. ⌜ (r ≡ x) × (r < 256) ⌝ }
+{
+    x as u32
+}
+
+pub fn lesser(a: u64, b: u64) -> u64
+    ensures { λ r. ⌜ r ≡ min a b ⌝ }
+{
+    if a < b { a } else { b }
+}
+
+// The head and the station words of n variables, in front of a slice that they fit into.
+pub fn write_front(target: &mut [u32], sizes: &[u8; MAX_VARIABLES], n: usize)
+    requires { ⌜ (n ≤ maxVariables) × (length (now sizes) ≡ maxVariables) × (n + 1 ≤ length (now target)) ⌝ }
+    ensures { λ r. ⌜ now (target .exit) ≡ sets (now (target .entry)) 0 (frontWords (take n (now (sizes .entry)))) ⌝ }
+{
+    target[0] = words::head(n as u32);
+    let mut i: usize = 0;
+    while i < n {
+        target[i + 1] = words::size(wide(sizes[i]));
+        i += 1;
+    }
+}
+
+// The cost that a word gives, 0 if it is no cost word.
+pub fn cost_of(w: u32) -> u32
+    ensures { λ r. ⌜ r ≡ costOf w ⌝ }
+{
+    let Word::Cost(c) = words::read(w) else {
+        return 0;
+    };
+    c
+}
+
+// The bytes are one value below each of n sizes.
+pub fn is_assignment(sizes: &[u8; MAX_VARIABLES], n: usize, plan: &[u8]) -> bool
+    requires { ⌜ (n ≤ maxVariables) × (n ≤ length (now sizes)) ⌝ }
+    ensures { λ r. ⌜ r ≡ isAssignment (take n (now (sizes .entry))) (now (plan .entry)) ⌝ }
+{
+    if plan.len() != n {
+        return false;
+    }
+    let mut i: usize = 0;
+    while i < n {
+        if sizes[i] <= plan[i] {
+            return false;
+        }
+        i += 1;
+    }
+    true
+}

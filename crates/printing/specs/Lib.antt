@@ -1,0 +1,4 @@
+-- The text of a planned sheet.
+pub mod Printed
+pub mod Plans
+pub mod Theorems

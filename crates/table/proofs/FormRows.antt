@@ -1,0 +1,99 @@
+-- The rows of a table of any form: what is read from words that pass the test is what their raw rows are made from, and the words of valid rows pass it.
+use Prim.Native.Nat.{ℕ, zero, suc, _<_}
+use mathlib.Core.Path.{_≡_, refl, sym, ap₂, _∙_}
+use mathlib.Core.Bool.{true, not, _&&_}
+use mathlib.Core.List.{List, _∷_, _++_, map, append-assoc}
+use lib.ListN.{length, drop, length-map}
+use lib.Seq.{drop-at}
+use borrow.Author.Tests.{not-true}
+use Rattle.wcsp.specs.Clause.{ValidClause}
+use Rattle.wcsp.specs.Row.{Row, ValidRows, nilRows, consRows}
+use Rattle.wcsp.proofs.Lists.{both-true, and-left, and-right}
+use Rattle.rows.specs.Form.{flatIn, rawsFromIn}
+use Rattle.rows.proofs.FormRows.{length-rawsFrom}
+use Rattle.table.specs.Form.{TableForm}
+use Rattle.table.specs.Meaning.{rowsFromIn}
+use Rattle.table.specs.Valid.{signKinds, validSigns, validRowIn, validRowsIn, hasSigns, distinctRows}
+use Rattle.table.proofs.Carried.{CarriedIn, AllCarriedIn, nilCarried, consCarried}
+use Rattle.table.proofs.ValidParts.{clause-valid, valid-clause, absent-rows}
+use Rattle.table.proofs.TableLaws.{TableLaws}
+
+pub length-rowsFrom : (f : TableForm) (k : ℕ) (ws : List ℕ) → length (rowsFromIn f k ws) ≡ k
+unfolding rowsFromIn
+length-rowsFrom f k ws = length-map (rawsFromIn (f .rows) k ws) (f .rowOf) ∙ length-rawsFrom (f .rows) k ws
+
+module _ (f : TableForm) (law : TableLaws f) where
+  pub rows-raws : {rs : List Row} → AllCarriedIn (f .limit) rs → map (f .rowOf) (map (f .rawOf) rs) ≡ rs
+  rows-raws nilCarried = refl
+  rows-raws (consCarried {r = r} h t) = ap₂ (λ q qs. q ∷ qs) (law .says r h) (rows-raws t)
+
+  pub carried-rowsFrom : (k : ℕ) (ws : List ℕ) → AllCarriedIn (f .limit) (rowsFromIn f k ws)
+  unfolding rowsFromIn rawsFromIn
+  carried-rowsFrom zero ws = nilCarried
+  carried-rowsFrom (suc k) ws = consCarried (law .carries (f .rows .read ws 0)) (carried-rowsFrom k (drop (f .rows .width) ws))
+
+  -- ---- a row
+
+  -- the row in front of words
+  abbrev front : List ℕ → Row
+  front ws = f .rowOf (f .rows .read ws 0)
+
+  record RowMade (ds ws : List ℕ) : Type 0 where
+    raw : f .rows .read ws 0 ≡ f .rawOf (front ws)
+    signs : validSigns ds (front ws .signs) ≡ true
+    weight : 0 < front ws .weight
+
+  row-made : (ds ws : List ℕ) → validRowIn f ds ws ≡ true → RowMade ds ws
+  unfolding validRowIn
+  row-made ds ws e =
+      let s = signKinds ws in
+      let w = f .weighs ws in
+      let c = validSigns ds (front ws .signs) in
+      let kinds = and-left (s && w) c e in
+      record {
+        raw = law .made ws (and-left s w kinds) (and-right s w kinds);
+        signs = and-right (s && w) c e;
+        weight = law .positive ws (and-right s w kinds);
+      }
+
+  row-passes : (ds : List ℕ) (r : Row) (ws : List ℕ) → CarriedIn (f .limit) r → ValidClause ds (r .signs) → 0 < r .weight
+      → validRowIn f ds (f .rows .words (f .rawOf r) ++ ws) ≡ true
+  unfolding validRowIn
+  row-passes ds r ws h v p =
+      rw (law .signs-pass r ws h, law .weight-passes r ws h p, law .form .read-words (f .rawOf r) ws, law .says r h) (valid-clause v)
+
+  -- ---- all rows
+
+  pub rows-made : (ds : List ℕ) (k : ℕ) (ws : List ℕ) → validRowsIn f ds k ws ≡ true → rawsFromIn (f .rows) k ws ≡ map (f .rawOf) (rowsFromIn f k ws)
+  unfolding validRowsIn rawsFromIn rowsFromIn
+  rows-made ds zero ws e = refl
+  rows-made ds (suc k) ws e =
+      let a = validRowIn f ds ws in
+      let b = validRowsIn f ds k (drop (f .rows .width) ws) in
+      ap₂ (λ r rs. r ∷ rs) (row-made ds ws (and-left a b e) .raw) (rows-made ds k (drop (f .rows .width) ws) (and-right a b e))
+
+  pub rows-valid : (ds : List ℕ) (k : ℕ) (ws : List ℕ) → length ds ≡ 12 → validRowsIn f ds k ws ≡ true → distinctRows (rowsFromIn f k ws) ≡ true
+      → ValidRows ds (rowsFromIn f k ws)
+  unfolding validRowsIn rawsFromIn rowsFromIn distinctRows
+  rows-valid ds zero ws h e d = nilRows
+  rows-valid ds (suc k) ws h e d =
+      let rest = drop (f .rows .width) ws in
+      let a = validRowIn f ds ws in
+      let b = validRowsIn f ds k rest in
+      let o = hasSigns (front ws .signs) (rowsFromIn f k rest) in
+      let q = distinctRows (rowsFromIn f k rest) in
+      let m = row-made ds ws (and-left a b e) in
+      let long = law .carries (f .rows .read ws 0) .twelve .long in
+      consRows (clause-valid ds (front ws .signs) (h ∙ sym long) (m .signs)) (m .weight)
+      (absent-rows (front ws .signs) (rowsFromIn f k rest) (not-true o (and-left (not o) q d)))
+      (rows-valid ds k rest h (and-right a b e) (and-right (not o) q d))
+
+  pub rows-pass : {ds : List ℕ} {rs : List Row} (ws : List ℕ) → ValidRows ds rs → AllCarriedIn (f .limit) rs
+      → validRowsIn f ds (length rs) (flatIn (f .rows) (map (f .rawOf) rs) ++ ws) ≡ true
+  unfolding validRowsIn flatIn
+  rows-pass ws nilRows nilCarried = refl
+  rows-pass {ds} ws (consRows {r = r} {rs = rs} v p a t) (consCarried h hs) =
+      let row = f .rows .words (f .rawOf r) in
+      let rest = flatIn (f .rows) (map (f .rawOf) rs) in
+      rw (append-assoc row rest ws, drop-at row (rest ++ ws) (f .rows .width) (law .form .length-words (f .rawOf r)))
+      (both-true _ _ (row-passes ds r (rest ++ ws) h v p) (rows-pass ws t hs))
