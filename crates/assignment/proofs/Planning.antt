@@ -20,6 +20,7 @@ use Rattle.table.proofs.Tested.{table-valid, table-invalid}
 use Rattle.hunt.specs.declared.Hunted.{Hunted}
 use Rattle.hunt.specs.declared.Hunted.the-variants.{Next, Nothing}
 use Rattle.hunt.specs.Hunt.{huntedOf}
+use Rattle.hunt.proofs.Climbing.{nothing-none}
 use Rattle.hunt.proofs.Climbing as climbing
 use Rattle.assignment.specs.Calls.{PlanReturned, tableAssignment, planOn, planCall}
 use Rattle.assignment.specs.Chosen.{Ready}
@@ -92,12 +93,7 @@ module _ (t : List ℕ) (checked : Checked) (answer : checked ≡ checkTable t) 
 
         module _ (e : found ≡ Nothing) where
           none-left : nextPair (domains t) (tableRows t) ≡ none
-          unfolding huntedOf
-          none-left = go (nextPair (domains t) (tableRows t)) (sym hunted ∙ e)
-            where
-              go : (o : Option Pair) → huntedOf o ≡ Nothing → o ≡ none
-              go none f = refl
-              go (some pr) f = cc
+          none-left = nothing-none (nextPair (domains t) (tableRows t)) (sym hunted ∙ e)
 
           pub ready : Ready t shape target
           ready = record { valid = told .0; shaped = told .1; done = none-left; room = in-target }

@@ -1,4 +1,4 @@
--- A slice that holds an instance's sizes and rows as a table: what it reads as, and what the step and the plan call come to on its rows.
+-- A slice that holds sizes and rows as a table: what it reads as, and what the step and the plan call come to on its rows.
 use Prim.Native.Nat.{ℕ, _≤_, _<_, min}
 use mathlib.Core.Path.{_≡_, ap₂}
 use mathlib.Core.List.{List, [], _++_}

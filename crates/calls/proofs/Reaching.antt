@@ -1,4 +1,4 @@
--- Steps on the next pair whose rows all fit: what a list of calls makes of rows. Such steps are those of the derivation, keep the instance,
+-- Steps on the next pair whose rows all fit: what a list of calls makes of rows. Such steps are those of the derivation, keep sizes and entries,
 -- and are replayed to the end, since the step word of every pair reads back.
 use Prim.Native.Nat.{ℕ, suc, _+_, _≤_, _<_}
 use native.Mathlib.Omega.{arith}

@@ -1,4 +1,4 @@
--- A run on rows that keep the instance: the words it makes are those of steps on the next pair whose rows fit, and it ends with no pair left,
+-- A run on rows that keep sizes and entries: the words it makes are those of steps on the next pair whose rows fit, and it ends with no pair left,
 -- at its limit, or short of its limit before a step that lacks room. By induction on the steps that it may still make.
 use Prim.Native.Nat.{ℕ, zero, suc, _<_}
 use native.Mathlib.Omega.{arith}

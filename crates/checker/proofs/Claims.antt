@@ -1,5 +1,5 @@
--- An accepted claim's cost is the least cost: the empty row's weight in rows that keep the instance is below every cost, and the claim
--- is such a weight and the cost of an assignment. The table that the checker leaves holds rows that keep the instance.
+-- An accepted claim's cost is the least cost: the empty row's weight in rows that keep sizes and entries is below every cost, and the claim
+-- is such a weight and the cost of an assignment. The table that the checker leaves holds rows that keep the instance's.
 use Prim.Native.Nat.{ℕ}
 use native.Mathlib.Omega.{arith}
 use mathlib.Core.Path.{_≡_, refl, sym, ap}

@@ -1,4 +1,4 @@
--- A replay goes on only by permitted steps whose rows fit, so whatever step words it gets, the rows that it leaves keep the instance and fit;
+-- A replay goes on only by permitted steps whose rows fit, so whatever step words it gets, the rows that it leaves keep sizes and entries and fit;
 -- and since no weight of such rows is too great, it is never stopped by 11.
 use Prim.Native.Nat.{ℕ, suc, _≤_}
 use native.Mathlib.Omega.{arith}
@@ -99,7 +99,7 @@ pub left-held : {len : ℕ} {ds : List ℕ} {es : List Entry} → Takes len ds e
     → t ≡ tableWords len ds rs → Held t len ds rs
 left-held {len} {ds} a {t} {rs} l e = held t len ds rs (keeps-holdable (l .keeps) a (l .fits)) e
 
--- what a replay comes to: rows that keep the instance and fit, and a number other than 11
+-- what a replay comes to: rows that keep sizes and entries and fit, and a number other than 11
 pub record Ended (ds : List ℕ) (es : List Entry) (cap : ℕ) (done : Replayed) : Type 0 where
   pub left : Left ds es cap (done .rows)
   pub never : done .number ≡ 11 → ⊥

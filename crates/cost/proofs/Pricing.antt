@@ -13,7 +13,7 @@ use Rattle.fields.specs.Limits.{maxVariables, greatestCost}
 use Rattle.fields.specs.Entries.{costOf, entriesFrom}
 use Rattle.fields.specs.Assignment.{isAssignment}
 use Rattle.fields.specs.Answers.{refused, good}
-use Rattle.fields.proofs.Padding.{padded-length, padded-front}
+use Rattle.fields.proofs.Padding.{padded-length}
 use Rattle.fields.proofs.Costs.{entries-costs}
 use Rattle.input.specs.declared.Validated.{Validated}
 use Rattle.input.specs.Instance.{instanceFault, sizesOf, entriesOf}
@@ -89,9 +89,6 @@ module _ (ws plan : List ℕ) (read : Validated) (r : read ≡ validateCall ws) 
         let l : length (read .sizes) ≡ maxVariables = ap length (known .sizes) ∙ padded-length (sizesOf ws) m in
         omega arith
 
-    front : take (read .variables) (read .sizes) ≡ sizesOf ws
-    front = ap (take (read .variables)) (known .sizes) ∙ padded-front (sizesOf ws) (read .variables) (sym (known .variables))
-
     words-are : cost (entriesOf ws) plan ≡ costFrom plan true (drop (read .variables + 1) ws)
     unfolding entriesOf matches
     words-are =
@@ -103,7 +100,7 @@ module _ (ws plan : List ℕ) (read : Validated) (r : read ≡ validateCall ws) 
 
     module _ (ok : Bool) (a : ok ≡ isAssignment (take (read .variables) (read .sizes)) plan) where
       assigned : isAssignment (sizesOf ws) plan ≡ ok
-      assigned = ap (λ ds. isAssignment ds plan) (sym front) ∙ sym a
+      assigned = ap (λ ds. isAssignment ds plan) (sym (known .front)) ∙ sym a
 
       pub cost-not : ok ≡ false → refused 7 ≡ costCall ws plan
       unfolding costCall

@@ -15,7 +15,7 @@ use Rattle.fields.specs.declared.Answer.{Answer}
 use Rattle.fields.specs.Padding.{padded}
 use Rattle.fields.specs.Answers.{refused, good}
 use Rattle.fields.specs.Entries.{EachSize}
-use Rattle.fields.proofs.Padding.{padded-length, padded-front, sizes-padded}
+use Rattle.fields.proofs.Padding.{padded-length, sizes-padded}
 use Rattle.input.specs.declared.Validated.{Validated}
 use Rattle.input.specs.Instance.{instanceFault, sizesOf}
 use Rattle.input.specs.Calls.{validateCall}
@@ -61,9 +61,6 @@ module _ (ws t : List ℕ) (read : Validated) (r : read ≡ validateCall ws) whe
         let k = instance-known in
         rw sizes-are (padded-length (sizesOf ws) (omega (arith, k .variables, k .few)), sizes-padded (k .sizes))
 
-    sizes-front : take (read .variables) (read .sizes) ≡ sizesOf ws
-    sizes-front = ap (take (read .variables)) sizes-are ∙ padded-front (sizesOf ws) (read .variables) variables-are
-
     -- ---- 10
 
     pub encode-short : length t < read .variables + 2 → Answered ws t (refused 10) t
@@ -104,7 +101,7 @@ module _ (ws t : List ℕ) (read : Validated) (r : read ≡ validateCall ws) whe
           rows-fit = room-rows (length t) (read .variables) (length (encodedRows ws)) long (omega (arith, fits))
 
           words-are : t₁ ≡ tableWords (length t) (sizesOf ws) []
-          words-are = c ∙ ap (λ ds. tableWords (length t) ds []) sizes-front
+          words-are = c ∙ ap (λ ds. tableWords (length t) ds []) (found .front)
 
           pub cleared-long : length t₁ ≡ length t
           cleared-long = ap length words-are ∙ length-words (length t) (sizesOf ws) [] (omega (arith, variables-are))

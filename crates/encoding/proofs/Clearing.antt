@@ -1,4 +1,4 @@
--- The front of a table written word by word, zeros behind it, and the full signs of twelve variables: what each store adds, and what the whole then is.
+-- Zeros to the end of a slice, the table of no rows that they make with the front and the count, and the full signs of twelve variables.
 use Prim.Native.Nat.{ℕ, suc, _+_, _-_, _*_, _<_, _≤_}
 use native.Mathlib.Omega.{arith}
 use native.Mathlib.Numerals.{add-one}

@@ -1,4 +1,4 @@
--- What a field is, apart from the words that say it: its limits, its sizes in front of the words, its entries, and twelve variables in place of n.
+-- What a field is, whichever format says it: its limits, the words of its sizes and entries, assignments, and twelve variables in place of n.
 pub mod Limits
 pub mod Front
 pub mod Entries

@@ -1,4 +1,5 @@
-// What the crates above share on a field: its sizes' words in front of a slice, a word's cost, assignments, and the answer of a call.
+// What the crates above share on a field: its limits, its sizes' words in front of a slice, a word's cost, assignments, the answer of a call, and
+// two small functions on numbers.
 use words::Word;
 ghost use mathlib.Core.Path.{_≡_};
 ghost use Prim.Native.Nat.{_+_, _<_, _≤_, min};
@@ -25,6 +26,7 @@ pub struct Answer {
     pub value: u64,
 }
 
+// The answer of a refused call.
 pub fn refusal(k: u32) -> Answer
     ensures { λ r. ⌜ r ≡ refused k ⌝ }
 {
@@ -34,6 +36,7 @@ pub fn refusal(k: u32) -> Answer
     }
 }
 
+// The answer of a good one.
 pub fn success(v: u64) -> Answer
     ensures { λ r. ⌜ r ≡ good v ⌝ }
 {
@@ -43,12 +46,14 @@ pub fn success(v: u64) -> Answer
     }
 }
 
+// A byte as a number of 32 bits.
 pub fn wide(x: u8) -> u32
     ensures { λ r. ⌜ (r ≡ x) × (r < 256) ⌝ }
 {
     x as u32
 }
 
+// The lesser of two weights, or of two lengths.
 pub fn lesser(a: u64, b: u64) -> u64
     ensures { λ r. ⌜ r ≡ min a b ⌝ }
 {

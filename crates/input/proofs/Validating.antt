@@ -152,6 +152,7 @@ pub record GoodValidated (ws : List ℕ) (read : Validated) : Type 0 where
   pub variables : read .variables ≡ length (sizesOf ws)
   pub entries : read .entries ≡ length (entriesOf ws)
   pub sizes : read .sizes ≡ padded (sizesOf ws)
+  pub front : take (read .variables) (read .sizes) ≡ sizesOf ws
 
 module _ (ws : List ℕ) (read : Validated) (r : read ≡ validateCall ws) where
   fine : Validated
@@ -166,6 +167,7 @@ module _ (ws : List ℕ) (read : Validated) (r : read ≡ validateCall ws) where
         variables = ap (λ (v : Validated). v .variables) e;
         entries = ap (λ (v : Validated). v .entries) e;
         sizes = ap (λ (v : Validated). v .sizes) e;
+        front = ap (λ (v : Validated). take (v .variables) (v .sizes)) e ∙ padded-front (sizesOf ws) (length (sizesOf ws)) refl;
       }
 
   pub bad-validated : (read .number ≡ 0 → ⊥) → (eqb (instanceFault ws) 0 ≡ false) × (read .number ≡ instanceFault ws)

@@ -41,6 +41,7 @@ pub enum Behind {
     Stops(u32),
 }
 
+// The test of an instance: 1 to 5, or its variables, entries and sizes.
 pub fn validate(words: &[u32]) -> Validated
     ensures { λ r. ⌜ r ≡ validateCall (now (words .entry)) ⌝ }
 {

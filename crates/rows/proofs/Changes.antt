@@ -6,7 +6,7 @@ use mathlib.Core.Path.{_≡_, refl, ap}
 use mathlib.Core.List.{List, [], _∷_, _++_}
 use lib.ListN.{length, getD, take, drop, set, length-set}
 use lib.Seq.{set-out}
-use Rattle.rows.specs.Raw.{Raw, noRaw, weighing, reweighed, without}
+use Rattle.rows.specs.Raw.{Raw, noRaw, reweighed, without}
 
 -- ---- a row reweighed
 
@@ -18,14 +18,6 @@ length-reweighed rs k w = length-set rs k _
 pub reweighed-past : (rs : List Raw) (k w : ℕ) → length rs ≤ k → reweighed rs k w ≡ rs
 unfolding reweighed
 reweighed-past rs k w h = set-out rs k _ h
-
-pub reweighed-here : (r : Raw) (rs : List Raw) (w : ℕ) → reweighed (r ∷ rs) 0 w ≡ weighing r w ∷ rs
-unfolding reweighed
-reweighed-here r rs w = refl
-
-pub reweighed-behind : (r : Raw) (rs : List Raw) (k w : ℕ) → reweighed (r ∷ rs) (suc k) w ≡ r ∷ reweighed rs k w
-unfolding reweighed
-reweighed-behind r rs k w = refl
 
 -- ---- a row taken out
 

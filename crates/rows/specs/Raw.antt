@@ -9,7 +9,7 @@ use Rattle.words.specs.Layout.{kindOf, payloadOf, signsWord, weightWord}
 use Rattle.clause.specs.declared.Clause.{Clause}
 use Rattle.rows.specs.declared.Found.{Found}
 use Rattle.rows.specs.declared.Found.the-variants.{At, Missing}
-use Rattle.rows.specs.Form.{Form, flatIn, rawsFromIn, LaidIn, LeftIn}
+use Rattle.rows.specs.Form.{Form, rawsFromIn, LaidIn, LeftIn}
 
 -- words to a row, and the greatest weight
 abbrev pub rowWidth : ℕ
@@ -41,9 +41,6 @@ rawAt t at =
 
 abbrev pub rowForm : Form
 rowForm = record { Raw = Raw; width = rowWidth; words = rawWords; read = rawAt }
-
-abbrev pub flat : List Raw → List ℕ
-flat rs = flatIn rowForm rs
 
 abbrev pub rawsFrom : ℕ → List ℕ → List Raw
 rawsFrom k ws = rawsFromIn rowForm k ws

@@ -31,6 +31,7 @@ pub struct Place {
     pub northing: u32,
 }
 
+// The test of a sheet: 1 to 5, or its variables, where its entries start, and its sizes.
 pub fn read_sheet(words: &[u32]) -> SheetRead
     ensures { λ r. ⌜ r ≡ sheetCall (now (words .entry)) ⌝ }
 {

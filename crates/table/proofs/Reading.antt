@@ -5,7 +5,7 @@ use mathlib.Core.Path.{_≡_, refl, sym, ap, _∙_}
 use mathlib.Core.Bool.{true, false}
 use mathlib.Core.List.{List, map}
 use lib.ListN.{length, getD}
-use Rattle.wcsp.specs.Row.{Row, ValidRows}
+use Rattle.wcsp.specs.Row.{ValidRows}
 use Rattle.wcsp.specs.Resolve.{noRow}
 use Rattle.clause.specs.Packed.{Packed, FullSigns}
 use Rattle.fields.proofs.Padding.{padded-length}
@@ -19,7 +19,6 @@ use Rattle.table.specs.Valid.{validTable}
 use Rattle.table.specs.Check.{fullClause, shapeOf}
 use Rattle.table.specs.Raws.{rowOf, rawOf}
 use Rattle.table.proofs.Twelve.{full-signs-padded, full-packed-padded}
-use Rattle.table.proofs.RawRows.{rowOf-weight}
 use Rattle.table.proofs.RawRows as raws
 use Rattle.table.proofs.Canonical.{passed, validIsCanonical}
 use Rattle.table.proofs.Finishing.{valid-count, valid-room, valid-raws, valid-laid}
@@ -77,6 +76,6 @@ module _ (t : List ℕ) (v : validTable t ≡ true) (base count : ℕ) (b : base
   row-room k h = omega (arith, find-room, n)
 
   pub row-weight : (k : ℕ) → k < rowCount t → (w : ℕ) → w ≡ weightIn (rawAt t (base + rowWidth * k)) → w ≡ getD (tableRows t) k noRow .weight
+  unfolding tableRowsIn
   row-weight k h w p =
-      p ∙ ap (λ m. weightIn (rawAt t (m + rowWidth * k))) b
-      ∙ sym (ap (λ (r : Row). r .weight) (row-at t k h) ∙ rowOf-weight (rawAt t (variablesOf t + 2 + rowWidth * k)))
+      p ∙ ap (λ m. weightIn (rawAt t (m + rowWidth * k))) b ∙ sym (raws.weight-at t (variablesOf t + 2) (rowCount t) k h)

@@ -18,7 +18,7 @@ use Rattle.wcsp.specs.Rule.{joined, metAt, excluding, conclusions, clash
 use Rattle.wcsp.specs.Resolve.{Pair, candidate, movedWeight, conclusionsOf, resolve}
 use Rattle.wcsp.specs.Theorems.{Candidate}
 use Rattle.wcsp.proofs.Signs.{has-full, has-or, has-and, within-has, or-le-full, and-le-full, complement-le-full, sign-ext}
-use Rattle.wcsp.proofs.Lists.{and-left, and-right, along-at}
+use Rattle.wcsp.proofs.Lists.{and-left, and-right, both-true, along-at}
 use Rattle.wcsp.proofs.Validity.{Each, nilEach, consEach, each-append, each-map, Bounded, bounded-valid, valid-signs}
 use Rattle.wcsp.proofs.Distinctness.{joined-at, metAt-at}
 use Rattle.wcsp.proofs.NextPair.{candidate-goes, goes-candidate}
@@ -42,9 +42,6 @@ or-there : (a b : Bool) → b ≡ true → (a || b) ≡ true
 or-there true b e = refl
 or-there false b e = e
 
-and-both : (a b : Bool) → a ≡ true → b ≡ true → (a && b) ≡ true
-and-both a b e f = rw (e, f)
-
 module _ (S T : ℕ) where
   inside-left : Inside S (bitOr S T)
   inside-left v e = has-or S T v ∙ or-here (has S v) (has T v) e
@@ -57,7 +54,7 @@ module _ (S T : ℕ) where
   meet-inside U f v e = f v (and-left (has S v) (has T v) (sym (has-and S T v) ∙ e))
 
   inside-meet : (U : ℕ) → Inside U S → Inside U T → Inside U (bitAnd S T)
-  inside-meet U f g v e = has-and S T v ∙ and-both (has S v) (has T v) (f v e) (g v e)
+  inside-meet U f g v e = has-and S T v ∙ both-true (has S v) (has T v) (f v e) (g v e)
 
   union-inside : (U : ℕ) → Inside S U → Inside T U → Inside (bitOr S T) U
   union-inside U f g v e = go (either (has S v) (has T v) (sym (has-or S T v) ∙ e))
@@ -78,7 +75,7 @@ inside-within d S T h k f =
     eq-eqb (bitAnd S T) S
     (sign-ext d (bitAnd S T) S (and-le-full d S T h k) h
     (λ v l. has-and S T v
-    ∙ same-values (has S v && has T v) (has S v) (λ e. and-left (has S v) (has T v) e) (λ e. and-both (has S v) (has T v) e (f v e))))
+    ∙ same-values (has S v && has T v) (has S v) (λ e. and-left (has S v) (has T v) e) (λ e. both-true (has S v) (has T v) e (f v e))))
 
 -- a union that is full stays so with a greater sign
 full-inside : (d U S T : ℕ) → U ≤ full d → T ≤ full d → Inside S T → bitOr U S ≡ full d → bitOr U T ≡ full d
@@ -203,8 +200,8 @@ clash-at : (d U S T : ℕ) → U < full d → T ≤ full d → Inside S T → (p
 unfolding present
 clash-at d U S T h k f e =
     let p = and-left (present U && present S) (eqb (bitOr U S) (full d)) e in
-    and-both (present U && present T) (eqb (bitOr U T) (full d))
-    (and-both (present U) (present T) (and-left (present U) (present S) p) (there (eqb T 0) refl)) (eq-eqb (bitOr U T) (full d) whole)
+    both-true (present U && present T) (eqb (bitOr U T) (full d))
+    (both-true (present U) (present T) (and-left (present U) (present S) p) (there (eqb T 0) refl)) (eq-eqb (bitOr U T) (full d) whole)
   where
     whole : bitOr U T ≡ full d
     whole = full-inside d U S T (omega arith) k f
