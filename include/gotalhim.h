@@ -5,6 +5,12 @@
 #include <stddef.h>
 #include <stdint.h>
 
+/* The version of this interface. Another major version may change what is here; another minor one only adds to it. */
+#define GOTALHIM_VERSION_MAJOR 1
+#define GOTALHIM_VERSION_MINOR 0
+#define GOTALHIM_VERSION_PATCH 0
+#define GOTALHIM_VERSION "1.0.0"
+
 #ifdef __cplusplus
 extern "C" {
 #endif
@@ -22,8 +28,7 @@ extern "C" {
  *   10 row count
  * Instance: head, n sizes, entries. An entry is 0 to 12 bindings, variables rising, then a cost.
  * Sheet: as an instance, but behind each size stand that many pairs of easting and northing.
- * Table: head, n sizes, row count, rows of four sign words and a weight, then zeros to the end of the slice. It has
- * room for (length - n - 2) / 5 rows, but at most 4,096.
+ * Table: head, n sizes, row count, rows of four sign words and a weight, then zeros to the end of the slice.
  * Plan: n bytes, the value of each variable.
  *
  * Slices. A slice is a pointer and a length in elements. The pointer is not null, even where the length is 0, and is
@@ -34,24 +39,55 @@ extern "C" {
  * written to the front of the answer slice; fields that it has no room for are left out, elements behind them are kept.
  * On a refusal every field is 0 and no lent word changes, but for what is said at gotalhim_run and gotalhim_check.
  *
- * Numbers.
- *    1 no words, first word not a head, or n not 1 to 12
- *    2 size or coordinate word missing, of a wrong kind or out of range
- *    3 entry word of a wrong kind, unknown variable or value, variables not rising, no cost word at the end
- *    4 cost above 65,535
- *    5 the 4,097th cost word, if 4 does not apply to it; in a sheet the costs of travel between neighbouring variables
- *      are counted first
- *      (a set unnamed bit is 1, 2 or 3 by its place)
- *    6 a step word that names no permitted pair
- *    7 plan not exactly n bytes, a value out of range, or a cost that fails the claim
- *    8 variable not below n, position out of range, or plan not exactly n bytes or with a value out of range
- *    9 not a valid table
- *   10 target slice too short
- *   11 a weight would pass 268,435,455
- *   12 the finished encoding or step would need more rows than there is room for
- *   13 plan wanted while a pair is left
- * Among 1 to 5 the faulty word nearest the front decides.
+ * Calls are reentrant: they keep no state and have no memory of their own, so what a call does is fixed by its arguments,
+ * and several may go on at the same time as long as no slice that one of them writes is lent to another. Every call ends.
+ * gotalhim_step, gotalhim_run, gotalhim_drive and gotalhim_check need at most GOTALHIM_STACK_BYTES of stack and the others
+ * at most half of that, besides what the C library's memset needs; no call takes more for a larger table or a longer list.
  */
+#define GOTALHIM_STACK_BYTES 2048
+
+/* The numbers. Among 1 to 5 the faulty word nearest the front decides; a set unnamed bit is 1, 2 or 3 by its place. */
+enum gotalhim_number {
+    GOTALHIM_GOOD = 0,
+    GOTALHIM_BAD_HEAD = 1,          /* no words, first word not a head, or n not 1 to 12 */
+    GOTALHIM_BAD_VARIABLE = 2,      /* size or coordinate word missing, of a wrong kind or out of range */
+    GOTALHIM_BAD_ENTRY = 3,         /* entry word of a wrong kind, unknown variable or value, variables not rising, or
+                                       no cost word at the end */
+    GOTALHIM_COST_TOO_HIGH = 4,     /* cost above 65,535 */
+    GOTALHIM_TOO_MANY_ENTRIES = 5,  /* the 4,097th cost word, if 4 does not apply to it; in a sheet the costs of travel
+                                       between neighbouring variables are counted first */
+    GOTALHIM_BAD_STEP = 6,          /* a step word that names no permitted pair */
+    GOTALHIM_BAD_CLAIM = 7,         /* plan not exactly n bytes, a value out of range, or a cost that fails the claim */
+    GOTALHIM_BAD_READOUT = 8,       /* variable not below n, position out of range, or plan not exactly n bytes or with a
+                                       value out of range */
+    GOTALHIM_BAD_TABLE = 9,         /* not a valid table */
+    GOTALHIM_TARGET_TOO_SHORT = 10,
+    GOTALHIM_WEIGHT_TOO_HIGH = 11,  /* a weight would pass 268,435,455 */
+    GOTALHIM_TABLE_FULL = 12,       /* the finished encoding or step would need more rows than there is room for */
+    GOTALHIM_PAIR_LEFT = 13         /* plan wanted while a pair is left */
+};
+
+/* How a run ended, the first field of its answer. */
+enum gotalhim_outcome {
+    GOTALHIM_DONE = 0,              /* no pair is left */
+    GOTALHIM_PAUSED = 1,            /* at the limit, or at the end of the slice */
+    GOTALHIM_STOPPED = 2            /* by 11 or 12, which is the number returned */
+};
+
+#define GOTALHIM_MAX_VARIABLES 12
+#define GOTALHIM_MAX_ROWS 4096
+#define GOTALHIM_ROW_WORDS 5
+
+/* The words of a table over so many variables with room for so many rows. */
+#define GOTALHIM_TABLE_WORDS(variables, rows) ((size_t)(variables) + 2 + GOTALHIM_ROW_WORDS * (size_t)(rows))
+
+/* The rows that a table over so many variables has room for in a slice of so many words. Arguments are evaluated anew
+ * at each of their places. */
+#define GOTALHIM_TABLE_ROWS(variables, words) \
+    ((size_t)(words) < GOTALHIM_TABLE_WORDS(variables, 0) ? (size_t)0 \
+     : (size_t)(words) < GOTALHIM_TABLE_WORDS(variables, GOTALHIM_MAX_ROWS) \
+         ? ((size_t)(words) - GOTALHIM_TABLE_WORDS(variables, 0)) / GOTALHIM_ROW_WORDS \
+     : (size_t)GOTALHIM_MAX_ROWS)
 
 /*
  * Makes the instance of a sheet: first an entry for each pair of values of neighbouring variables, which costs the
@@ -88,9 +124,9 @@ uint32_t gotalhim_step(uint32_t *table, size_t table_length,
  * Makes steps one after the other, and writes the word of each from the front of a slice.
  * Tests: 9; then before each step, in this order: done, if no pair is left; paused, if the limit or the end of the
  * slice is reached; 11; 12.
- * Answer: the outcome (0 done, 1 paused, 2 stopped by 11 or 12), the steps made, and the bound, which is the weight of
- * the row without literals in the table that the run leaves, 0 if there is none. Done and paused are successes, with
- * number 0. Refused with 9 all fields are 0; a run that 11 or 12 stops returns all its fields.
+ * Answer: the outcome (enum gotalhim_outcome), the steps made, and the bound, which is the weight of the row without
+ * literals in the table that the run leaves, 0 if there is none. Done and paused are successes, with number 0. Refused
+ * with 9 all fields are 0; a run that 11 or 12 stops returns all its fields.
  * Memory: the table after the last step; the words of the steps made, the rest of the slice kept. This holds for a run
  * that 11 or 12 stops, too; refused with 9 nothing changes.
  */

@@ -3,7 +3,7 @@
 
 #include "gotalhim.h"
 
-enum { INSTANCE_WORDS = 100, TABLE_WORDS = 100, STEPS = 50, VARIABLES = 2 };
+enum { VARIABLES = 2, INSTANCE_WORDS = 100, STEPS = 50, TABLE_WORDS = GOTALHIM_TABLE_WORDS(VARIABLES, 20) };
 
 static uint32_t word(uint32_t kind, int32_t payload)
 {
@@ -12,9 +12,9 @@ static uint32_t word(uint32_t kind, int32_t payload)
 
 static int refused(const char *call, uint32_t number)
 {
-    if (number != 0)
+    if (number != GOTALHIM_GOOD)
         printf("%s: refused with %u\n", call, (unsigned)number);
-    return number != 0;
+    return number != GOTALHIM_GOOD;
 }
 
 /* Writes the sheet and returns its length. */
@@ -41,8 +41,13 @@ int main(void)
 
     if (refused("make", gotalhim_make(sheet, length, instance, INSTANCE_WORDS, &written, 1))
         || refused("encode", gotalhim_encode(instance, written, table, TABLE_WORDS, &rows, 1))
-        || refused("run", gotalhim_run(table, TABLE_WORDS, STEPS, derivation, STEPS, ran, 3))
-        || refused("plan", gotalhim_plan(table, TABLE_WORDS, plan, VARIABLES)))
+        || refused("run", gotalhim_run(table, TABLE_WORDS, STEPS, derivation, STEPS, ran, 3)))
+        return 1;
+    if (ran[0] != GOTALHIM_DONE) {
+        printf("paused after %u steps; no plan costs less than %u\n", (unsigned)ran[1], (unsigned)ran[2]);
+        return 1;
+    }
+    if (refused("plan", gotalhim_plan(table, TABLE_WORDS, plan, VARIABLES)))
         return 1;
     printf("cost %u after %u steps: values %u and %u\n",
            (unsigned)ran[2], (unsigned)ran[1], (unsigned)plan[0], (unsigned)plan[1]);

@@ -8,6 +8,7 @@ from typing import NamedTuple
 
 import driver
 import reference
+from different import Different
 from proved import BYTE, FIELD, SIZE, WORD, Slice, call
 from reference import inputs, words
 from reference.answers import BAD_TABLE, GOOD
@@ -26,10 +27,6 @@ class Answer(NamedTuple):
     number: int
     fields: list
     slices: list        # the content of each, in the order of the arguments
-
-
-class Different(Exception):
-    """Raised where the two sides do not agree; its text has the call and both answers."""
 
 
 def passed(kind, value):
@@ -94,7 +91,7 @@ class Both:
         self.numbers.add(expected.number)
         try:
             got = Answer(number, answer.content(), [each.content() for each in lent if isinstance(each, Slice)])
-        except AssertionError as overrun:
+        except Different as overrun:
             raise Different(told(name, arguments, [str(overrun)])) from overrun
         if got != expected:
             raise Different(told(name, arguments, fault_of(got, expected)))

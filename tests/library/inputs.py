@@ -5,6 +5,7 @@ import random
 
 import proved
 import reference
+from different import require
 from reference import fields, inputs, words
 from reference.answers import Refused
 
@@ -36,7 +37,7 @@ def good_sheets():
 def same_instance(sheet, target):
     expected = tuple(reference.make_instance(sheet, target))
     got = tuple(proved.make_instance(sheet, target))
-    assert got == expected, f"make {sheet} in {len(target)} words: {got[:2]}, reference {expected[:2]}"
+    require(got == expected, f"make {sheet} in {len(target)} words: {got[:2]}, reference {expected[:2]}")
 
 
 def small_sheets():
@@ -56,7 +57,7 @@ def damaged(sheet, chance):
 
 def same_cost(instance, plan):
     got, expected = tuple(proved.cost(instance, plan)), inputs.cost_call(instance, plan)
-    assert got == expected, f"cost of {plan} in {instance}: {got}, reference {expected}"
+    require(got == expected, f"cost of {plan} in {instance}: {got}, reference {expected}")
 
 
 def same_costs(instance, chance):
@@ -73,7 +74,8 @@ def answer_slices(instance):
     """An answer is written as far as its slice goes, and what lies behind its fields is kept."""
     number, cost = proved.cost(instance, [0] * (instance[0] & 15))
     for length, expected in ((0, []), (2, [cost, 77]), (3, [cost, 77, 77])):
-        assert proved.answered_cost(instance, [0] * (instance[0] & 15), length) == (number, expected)
+        got = proved.answered_cost(instance, [0] * (instance[0] & 15), length)
+        require(got == (number, expected), f"cost in an answer of {length}: {got}, due {number, expected}")
 
 
 def bounds():

@@ -6,6 +6,7 @@ from collections import Counter
 
 import proved
 import reference
+from different import require
 from reference import fields
 from reference.answers import BAD_TABLE
 from reference.clauses import full
@@ -38,9 +39,9 @@ def noted(answer, values):
 
 
 def same(name, outcome, got, expected):
-    assert len(got) == len(expected), f"{name}: {len(got)} fields, reference {len(expected)}"
+    require(len(got) == len(expected), f"{name}: {len(got)} fields, reference {len(expected)}")
     for field, mine, other in zip(got._fields, got, expected):
-        assert mine == other, f"{name}, {field}: {str(mine)[:400]}, reference {str(other)[:400]}"
+        require(mine == other, f"{name}, {field}: {str(mine)[:400]}, reference {str(other)[:400]}")
     reached[name, outcome] += 1
 
 
@@ -223,5 +224,5 @@ def run():
     at_the_bounds(chance)
     too_heavy_and_too_long()
     missing = [case for case in DUE if reached[case] < 3]
-    assert not missing, f"hardly reached: {missing}"
+    require(not missing, f"hardly reached: {missing}")
     return sum(reached.values())

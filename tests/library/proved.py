@@ -4,6 +4,8 @@ import ctypes
 from pathlib import Path
 from typing import NamedTuple
 
+from different import require
+
 ROOT = Path(__file__).resolve().parents[2]
 SHARED = ROOT / "target" / "library" / "libgotalhim.so"
 WORD, BYTE, FIELD, SIZE = ctypes.c_uint32, ctypes.c_uint8, ctypes.c_uint64, ctypes.c_size_t
@@ -35,7 +37,7 @@ class Slice:
         return [ctypes.byref(self.memory), SIZE(self.length)]
 
     def content(self):
-        assert list(self.memory[self.length:]) == self.GUARDS, "a call wrote past a lent slice"
+        require(list(self.memory[self.length:]) == self.GUARDS, "a call wrote past a lent slice")
         return list(self.memory[:self.length])
 
 
@@ -117,7 +119,7 @@ def run_call(table, limit, derivation, answer):
 def plan_call(table, target):
     source, lent = Slice(WORD, table), Slice(BYTE, target)
     number = call("gotalhim_plan", [source, lent])
-    assert source.content() == list(table), "a plan call wrote to the table"
+    require(source.content() == list(table), "a plan call wrote to the table")
     return Planned(number, lent.content())
 
 

@@ -5,6 +5,7 @@ from collections import Counter
 
 import proved
 import reference
+from different import require
 from inputs import INTERESTING, bounds, damaged, good_sheets
 from lists import noted
 from reference import words
@@ -35,16 +36,21 @@ def sizes_in(sheet):
     return [words.payload_of(w) for w in sheet if words.kind_of(w) == words.SIZE]
 
 
+def same_answer(sheet, plan, variable, easting, northing, answer):
+    """One readout on both sides; its number."""
+    expected = reference.readout_call(sheet, plan, variable, easting, northing)
+    got = proved.readout_call(sheet, plan, variable, easting, northing, answer)
+    require(got == (expected.number, noted(answer, [expected.metres])),
+            f"readout {sheet[:20]} {plan} {variable} {easting:x} {northing:x}: {got}, reference {expected}")
+    return expected.number
+
+
 def same_readout(sheet, sizes, chance):
     """One random readout; its number."""
     plan, answer = plan_for(sizes, chance), [77] * chance.choice([0, 1, 1, 2])
     variable = chance.choice(list(range(len(sizes))) * 3 + [len(sizes), 12, 2 ** 32 - 1])
     easting, northing = position(chance, words.easting), position(chance, words.northing)
-    expected = reference.readout_call(sheet, plan, variable, easting, northing)
-    got = proved.readout_call(sheet, plan, variable, easting, northing, answer)
-    assert got == (expected.number, noted(answer, [expected.metres])), \
-        f"readout {sheet[:20]} {plan} {variable} {easting:x} {northing:x}: {got}, reference {expected}"
-    return expected.number
+    return same_answer(sheet, plan, variable, easting, northing, answer)
 
 
 def run():
@@ -59,5 +65,5 @@ def run():
     for sheet in bounds():
         for _ in range(20):
             reached[same_readout(sheet, sizes_in(sheet), chance)] += 1
-    assert all(reached[number] >= 10 for number in (0, 1, 2, 3, 4, 5, 8)), reached
+    require(all(reached[number] >= 10 for number in (0, 1, 2, 3, 4, 5, 8)), f"hardly reached: {reached}")
     return sum(reached.values())

@@ -1,4 +1,4 @@
-"""The count of the checks made, and the tool run as a command or called in this process."""
+"""What the tool answers, run as a command or called in this process."""
 
 import io
 import subprocess
@@ -6,26 +6,14 @@ import sys
 from pathlib import Path
 from unittest import mock
 
+from counted import Counted
 from sheets.command import main
 
 ROOT = Path(__file__).resolve().parents[2]
 TOOL = ROOT / "tools" / "sheet"
 
-# How much of a differing result is printed.
-SHOWN = 300
 
-
-class Checks:
-    def __init__(self):
-        self.made = 0
-        self.failed = 0
-
-    def same(self, what, got, expected):
-        self.made += 1
-        if got != expected:
-            self.failed += 1
-            print(f"FAILED {what}\n  expected {repr(expected)[:SHOWN]}\n  got      {repr(got)[:SHOWN]}")
-
+class Checks(Counted):
     def answers(self, arguments, source, result):
         """The command succeeds with this result and says nothing else."""
         self.same(shown(arguments), ran(arguments, source), (0, result, ""))

@@ -1,6 +1,9 @@
 """The command itself: files and standard input, and what is said of files that are not there."""
 
-from examples import content
+import subprocess
+
+from checks import TOOL
+from examples import EXAMPLES, content
 from reference.fields import as_bytes, sheet
 from sheets.command import USAGE
 from text_faults import UNKNOWN
@@ -40,3 +43,13 @@ def run(checks):
     checks.fails(["text", "examples"], b"", "examples: Is a directory")
     for arguments in [[], ["words"], ["sheet", "-"], ["text", "-", "-"]]:
         checks.fails(arguments, b"", USAGE)
+    for command, name in [("words", "corner.txt"), ("words", "terraces.txt"), ("text", "terraces.sheet")]:
+        checks.same(f"sheet {command} examples/{name} to a full device", written_to_full(command, name),
+                    (1, "standard output: No space left on device\n"))
+
+
+def written_to_full(command, name):
+    """Exit status and standard error where the standard output takes no byte."""
+    with open("/dev/full", "wb") as full:
+        done = subprocess.run([TOOL, command, EXAMPLES / name], stdout=full, stderr=subprocess.PIPE)
+    return done.returncode, done.stderr.decode()

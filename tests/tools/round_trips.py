@@ -10,6 +10,8 @@ from sheets.command import text_to_words, words_to_text
 SHEETS = 200
 COORDINATES = [0, 1, -1, 5, -5, 99, -99, 100, -100, 12_345, MAX_COORDINATE, -MAX_COORDINATE]
 COSTS = [0, 1, 9, 10, 300, MAX_COST - 1, MAX_COST]
+# 14,080 words, whose instance has 16,000: 13 for the stations, 3 for each of 704 legs, 5 for each entry.
+LONGEST_INSTANCE = [[(0, 0)] * MAX_SIZE] * MAX_VARIABLES, [([(0, 0), (1, 0), (2, 0), (3, 0)], 1)] * 2_775
 
 
 def run(checks):
@@ -56,6 +58,7 @@ def limits():
         "most stations and spots": ([[here] * MAX_SIZE] * MAX_VARIABLES, [([], 1)] * (4_096 - 11 * 64)),
         "most entries": ([[here]], [([], 0)] * 4_096),
         "longest entry": ([[here]] * 12, [([(variable, 0) for variable in range(12)], MAX_COST)]),
+        "longest instance": LONGEST_INSTANCE,
         "most words": ([[here]] * 3, [([(0, 0), (1, 0), (2, 0)], 1)] * 3_997 + [([(0, 0)], 1)]),
     }
 

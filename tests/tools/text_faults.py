@@ -17,6 +17,8 @@ SPOT_FORM = "a spot is written as 'spot NUMBER at EASTING NORTHING'"
 COST_FORM = "a cost is written as 'cost AMOUNT', or 'cost AMOUNT at STATION/SPOT STATION/SPOT ..'"
 FORBIDDEN_FORM = "a forbidden spot is written as 'forbidden STATION/SPOT', each on a line of its own"
 
+LONG_INSTANCE = ("here the instance made from the sheet passes 16,000 words, the most that the planner takes; "
+                 "the 704 legs between neighbouring stations come first, with 3 words each")
 BREAK = "a line ends with a line feed, or with a carriage return and a line feed; here another sign of a new line stands in it"
 
 # Six lines, on which the entries below rest.
@@ -111,6 +113,9 @@ def entry_cases():
     # 10 words of stations and spots; 3,997 entries of four words and one of two: 16,000.
     most = stations(3) + "cost 1 at 0/0 1/0 2/0\n" * 3_997 + "cost 1 at 0/0\n"
     yield most + "cost 1\n", 6 + 3_999, "more than 16,000 words, the most that the planner takes"
+    # 13 words of stations and 3 for each of 704 legs; 2,775 entries of five words: an instance of 16,000.
+    longest = stations(12, 8) + "cost 1 at 0/0 1/0 2/0 3/0\n" * 2_775
+    yield longest + "cost 1\n", 12 * 9 + 2_776, LONG_INSTANCE
 
 
 def run(checks):

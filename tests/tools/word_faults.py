@@ -3,11 +3,12 @@
 import random
 
 import round_trips
-from reference import fields, inputs, words
+from reference import fields, inputs, make_instance, words
 from reference.answers import GOOD, Refused
 from reference.printed import words_of
 from sheets.fault import Fault
 from sheets.words import read_words
+from text_faults import LONG_INSTANCE
 
 DAMAGED = 2_000
 PLACE = [words.easting(0), words.northing(0)]
@@ -58,6 +59,14 @@ def entry_cases():
     yield TWO + [words.cost(1)] * 4_094 + [words.cost(65_536)], 9 + 4_094, dear
 
 
+def instance_cases():
+    """An instance that is too long, after every fault of the sheet's own words."""
+    longest = fields.sheet(*round_trips.LONGEST_INSTANCE)
+    yield longest + [words.cost(1)], 14_080, f"{LONG_INSTANCE} (refusal 10)"
+    yield longest + [words.cost(1)] * 2, 14_080, f"{LONG_INSTANCE} (refusal 10)"
+    yield longest + [words.cost(1), words.cost(65_536)], 14_081, "a cost of 65,536; at most 65,535 (refusal 4)"
+
+
 def length_cases():
     """Faults of the length come before all others."""
     yield bytes(64_001), 16_000, "the planner takes 16,000 words at most (refusal 10)"
@@ -69,9 +78,11 @@ def length_cases():
 def run(checks):
     for data, at, reason in length_cases():
         checks.refuses("text", data, f"word {at}: {reason}")
-    for cases in (head_cases, station_cases, entry_cases):
+    for cases in (head_cases, station_cases, entry_cases, instance_cases):
         for source, at, reason in cases():
-            checks.refuses("text", fields.as_bytes(source), f"word {at}: {reason}")
+            data = fields.as_bytes(source)
+            checks.refuses("text", data, f"word {at}: {reason}")
+            checks.same(f"the number of {reason}", fault_of(data)[1], make_instance(source, [0] * 16_000).number)
     rng = random.Random("damaged sheets")
     for _ in range(DAMAGED):
         data = fields.as_bytes(damaged(rng, fields.sheet(*round_trips.random_sheet(rng))))

@@ -8,7 +8,13 @@ MAX_SIZE = 8
 MAX_COORDINATE = 1_000_000      # centimetres
 MAX_COST = 65_535
 MAX_ENTRIES = 4_096             # the legs counted first
-MAX_WORDS = 16_000              # the program's buffer
+MAX_WORDS = 16_000              # the program's buffers, one for the sheet and one for the instance made from it
+
+# Words of a sheet: the head, each station, each spot. An entry has one for each binding and one for its cost, as a leg
+# has in the instance, where spots have none.
+HEAD_WORDS = STATION_WORDS = COST_WORDS = 1
+SPOT_WORDS = 2
+LEG_WORDS = 3
 
 # The cost at which a spot that must not be cored is entered.
 FORBIDDEN = MAX_COST
@@ -40,9 +46,26 @@ def binding_fault(sizes, before, variable, value):
     return None
 
 
+def leg_count(sizes):
+    return sum(size * following for size, following in zip(sizes, sizes[1:]))
+
+
+def instance_surplus(sizes):
+    """How many words more than the sheet the instance made from it has; fewer, where this is below 0."""
+    return LEG_WORDS * leg_count(sizes) - SPOT_WORDS * sum(sizes)
+
+
+def instance_fault(sizes, words):
+    """Why the instance of a sheet of so many words is too long, or None where it is not."""
+    if words + instance_surplus(sizes) > MAX_WORDS:
+        return (f"here the instance made from the sheet passes {MAX_WORDS:,} words, the most that the planner takes; "
+                f"the {leg_count(sizes)} legs between neighbouring stations come first, with {LEG_WORDS} words each")
+    return None
+
+
 def entry_fault(sizes, counted):
     """Why a sheet that has so many entries cannot take another one, or None where it can."""
-    legs = sum(size * following for size, following in zip(sizes, sizes[1:]))
+    legs = leg_count(sizes)
     if legs + counted >= MAX_ENTRIES:
         return f"more than {MAX_ENTRIES:,} entries; the {legs} legs between neighbouring stations count first"
     return None

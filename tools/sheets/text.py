@@ -16,8 +16,8 @@ Stations come first. Names, comments, blank lines and indentation have no words.
 import re
 
 from .fault import Fault
-from .sheet import (FORBIDDEN, MAX_COORDINATE, MAX_COST, MAX_SIZE, MAX_VARIABLES, MAX_WORDS, Entry, Sheet,
-                    binding_fault, entry_fault, sizes_of)
+from .sheet import (COST_WORDS, FORBIDDEN, HEAD_WORDS, MAX_COORDINATE, MAX_COST, MAX_SIZE, MAX_VARIABLES, MAX_WORDS,
+                    SPOT_WORDS, STATION_WORDS, Entry, Sheet, binding_fault, entry_fault, instance_fault, sizes_of)
 
 # Nine digits are above every limit.
 NUMBER = re.compile("[0-9]{1,9}")
@@ -26,10 +26,6 @@ BINDING = re.compile("([0-9]{1,9})/([0-9]{1,9})")
 
 # Characters at which an editor may show a new line though the sheet has none: what follows would be lost in a comment.
 BREAK = re.compile("[\r\v\f\x1c-\x1e\x85\u2028\u2029]")
-
-# Words of a sheet: the head, each station, each spot. An entry has one for each binding and one for its cost.
-HEAD_WORDS = STATION_WORDS = COST_WORDS = 1
-SPOT_WORDS = 2
 
 
 def write_text(sheet):
@@ -136,6 +132,10 @@ class Draft:
             self.refuse(reason)
         self.entries.append(Entry(tuple(bindings), cost))
         self.take_words(len(bindings) + COST_WORDS)
+        # The stations alone never make an instance too long.
+        reason = instance_fault(sizes, self.words)
+        if reason:
+            self.refuse(reason)
 
     def finished(self):
         if not self.places:

@@ -7,7 +7,7 @@ import struct
 
 from .fault import Fault
 from .sheet import (MAX_COORDINATE, MAX_COST, MAX_SIZE, MAX_VARIABLES, MAX_WORDS, Entry, Sheet, binding_fault,
-                    entry_fault, sizes_of)
+                    entry_fault, instance_fault, instance_surplus, sizes_of)
 
 WORD_BYTES = 4
 PAYLOADS = 1 << 28
@@ -89,7 +89,12 @@ def read_words(data):
         raise Fault(f"word {whole}", f"only {rest} of its {WORD_BYTES} bytes (refusal {BAD_HEAD})")
     reader = Reader(struct.unpack(f"<{whole}I", data))
     places = tuple(read_places(reader, variable) for variable in range(read_head(reader)))
-    return Sheet(places, read_entries(reader, sizes_of(places)))
+    sizes = sizes_of(places)
+    entries = read_entries(reader, sizes)
+    reason = instance_fault(sizes, whole)
+    if reason:
+        raise Fault(f"word {MAX_WORDS - instance_surplus(sizes)}", f"{reason} (refusal {TOO_LONG})")
+    return Sheet(places, entries)
 
 
 def read_head(reader):

@@ -6,3 +6,4 @@ pub mod Lacking
 pub mod Choosing
 pub mod Tables
 pub mod Planning
+pub mod Order

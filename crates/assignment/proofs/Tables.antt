@@ -1,18 +1,18 @@
 -- The rebuilding in a valid table: what its words say of sizes, rows and full signs, and the turns' laws in these terms.
 use Prim.Native.Nat.{ℕ, suc, _+_, _-_, _*_, _%_, _^_, _<_, _≤_}
 use native.Mathlib.Omega.{arith}
-use mathlib.Core.Path.{_≡_, sym, ap, _∙_}
+use mathlib.Core.Path.{_≡_, sym, ap, ap₂, _∙_}
 use mathlib.Core.Bool.{true}
 use mathlib.Core.List.{List, _++_}
-use lib.ListN.{length, getD, take, drop, set, replicate, List·getD-map}
+use lib.ListN.{length, getD, drop, set, replicate, List·getD-map}
 use lib.Count.{trailingZeros}
 use lib.Pow.{pow-mono}
 use Rattle.wcsp.specs.Sign.{full}
 use Rattle.wcsp.specs.Row.{ValidRows}
-use Rattle.wcsp.specs.Rebuild.{narrowed, rebuilt}
+use Rattle.wcsp.specs.Rebuild.{narrowed}
 use Rattle.clause.specs.declared.Clause.{Clause}
-use Rattle.clause.specs.Packed.{signsOf, Packed, Holds, FullSigns}
-use Rattle.fields.specs.Padding.{padded}
+use Rattle.clause.specs.Packed.{signsOf, FitsBlocks, Holds, FullSigns}
+use Rattle.fields.specs.Padding.{padded, lacking}
 use Rattle.fields.proofs.Padding.{sizes-padded}
 use Rattle.rows.specs.Raw.{rowWidth}
 use Rattle.table.specs.declared.Shape.{Shape}
@@ -20,7 +20,8 @@ use Rattle.table.specs.Meaning.{tableRowsIn, variablesOf, tableSizes, tableRows
 use Rattle.table.specs.Valid.{validTable}
 use Rattle.table.specs.Check.{shapeOf}
 use Rattle.table.proofs.Twelve.{full-signs-padded, full-packed-padded}
-use Rattle.table.proofs.Canonical.{passed, validIsCanonical}
+use Rattle.table.proofs.Canonical.{passed, twelveIsCanonical}
+use Rattle.table.proofs.Own.{own-widens}
 use Rattle.table.proofs.Finishing.{valid-variables, valid-room}
 use Rattle.assignment.specs.Calls.{tableAssignment}
 use Rattle.assignment.specs.Chosen.{Carries, Ready}
@@ -34,7 +35,7 @@ module _ (t : List ℕ) (v : validTable t ≡ true) where
 
   pub rows-valid : ValidRows (domains t) (tableRows t)
   unfolding domains
-  rows-valid = validIsCanonical t v .holdable .valid
+  rows-valid = twelveIsCanonical t v .holdable .valid
 
   module _ (shape : Shape) (e : shape ≡ shapeOf t) where
     pub variables-are : shape .variables ≡ variablesOf t
@@ -52,47 +53,43 @@ module _ (t : List ℕ) (v : validTable t ≡ true) where
 
     pub fulls-are : FullSigns (shape .fulls) (domains t)
     unfolding domains
-    fulls-are = rw e (full-signs-padded (tableSizes t) few-sizes (validIsCanonical t v .holdable .sizes))
+    fulls-are = rw e (full-signs-padded (tableSizes t) few-sizes (twelveIsCanonical t v .holdable .sizes))
 
-    pub fulls-packed : Packed (shape .fulls)
+    pub fulls-packed : FitsBlocks (shape .fulls)
     unfolding domains
-    fulls-packed = rw e (full-packed-padded (tableSizes t) few-sizes (validIsCanonical t v .holdable .sizes))
+    fulls-packed = rw e (full-packed-padded (tableSizes t) few-sizes (twelveIsCanonical t v .holdable .sizes))
 
 -- ---- the turns
 
--- the variables that the table lacks
-abbrev lacking : List ℕ → ℕ
-lacking t = 12 - length (tableSizes t)
-
 -- the values chosen from variable k on
 pub record Rebuilding (t target₀ target : List ℕ) (chosen : Clause) (k : ℕ) : Type 0 where
-  pub packed : Packed chosen
-  pub so-far : Chosen (tableSizes t) (lacking t) (tableRows t) target₀ k (signsOf chosen) target
+  pub packed : FitsBlocks chosen
+  pub so-far : Chosen (tableSizes t) (lacking (tableSizes t)) (tableRows t) target₀ k (signsOf chosen) target
 
 module _ (t : List ℕ) (shape : Shape) (target₀ : List ℕ) (ready : Ready t shape target₀) where
-  settled : Settled (tableSizes t) (lacking t) (tableRows t)
+  settled : Settled (tableSizes t) (lacking (tableSizes t)) (tableRows t)
   unfolding domains padded
   settled =
       record {
-        sizes = sizes-padded (validIsCanonical t (ready .valid) .holdable .sizes);
+        sizes = sizes-padded (twelveIsCanonical t (ready .valid) .holdable .sizes);
         valid = rows-valid t (ready .valid);
         done = ready .done;
       }
 
   pub start : (chosen : Clause) → Holds chosen (replicate 12 0) → Rebuilding t target₀ target₀ chosen (shape .variables)
   start chosen h =
-      let n : length (tableSizes t) + lacking t ≡ 12 = omega (arith, few-sizes t (ready .valid)) in
+      let n : length (tableSizes t) + lacking (tableSizes t) ≡ 12 = omega (arith, few-sizes t (ready .valid)) in
       let e : length (tableSizes t) ≡ shape .variables = valid-variables t (ready .valid) ∙ sym (variables-are t (ready .valid) shape (ready .shaped)) in
       rw (← e)
       (record {
         packed = h .packed;
-        so-far = none-chosen (tableSizes t) (lacking t) (tableRows t) settled (signsOf chosen) target₀
+        so-far = none-chosen (tableSizes t) (lacking (tableSizes t)) (tableRows t) settled (signsOf chosen) target₀
             (h .signsAre ∙ ap (λ i. replicate i 0) (sym n));
       })
 
   -- the turn at variable k
   module _ (target : List ℕ) (chosen : Clause) (j k : ℕ) (e : j ≡ suc k) (r : Rebuilding t target₀ target chosen j) where
-    before : Chosen (tableSizes t) (lacking t) (tableRows t) target₀ (suc k) (signsOf chosen) target
+    before : Chosen (tableSizes t) (lacking (tableSizes t)) (tableRows t) target₀ (suc k) (signsOf chosen) target
     before = rw e at (r .so-far)
 
     pub variable-low : k < 12
@@ -116,7 +113,7 @@ module _ (t : List ℕ) (shape : Shape) (target₀ : List ℕ) (ready : Ready t 
       pub value-bound : trailingZeros 32 S < 8
       unfolding domains padded
       value-bound =
-          value-small (tableSizes t) (lacking t) (tableRows t) settled target₀ k (signsOf chosen) target before F S full-here narrowed-here
+          value-small (tableSizes t) (lacking (tableSizes t)) (tableRows t) settled target₀ k (signsOf chosen) target before F S full-here narrowed-here
 
       bits : 2 ^ trailingZeros 32 S ≤ 128
       bits = let b = value-bound in pow-mono {i = trailingZeros 32 S} {j = 7} (omega arith)
@@ -134,7 +131,7 @@ module _ (t : List ℕ) (shape : Shape) (target₀ : List ℕ) (ready : Ready t 
           record {
             packed = h .packed;
             so-far = rw (h .signsAre, shifted)
-                (one-more (tableSizes t) (lacking t) (tableRows t) settled target₀ k (signsOf chosen) target before F S full-here narrowed-here
+                (one-more (tableSizes t) (lacking (tableSizes t)) (tableRows t) settled target₀ k (signsOf chosen) target before F S full-here narrowed-here
                 place-within);
           }
 
@@ -142,5 +139,5 @@ module _ (t : List ℕ) (shape : Shape) (target₀ : List ℕ) (ready : Ready t 
       → target ≡ tableAssignment t ++ drop (variablesOf t) target₀
   unfolding tableAssignment domains padded
   finished target chosen k e r =
-      all-chosen (tableSizes t) (lacking t) (tableRows t) target₀ (signsOf chosen) target (rw e at (r .so-far))
-      ∙ ap (λ n. take n (rebuilt (domains t) (tableRows t)) ++ drop n target₀) (valid-variables t (ready .valid))
+      all-chosen (tableSizes t) (lacking (tableSizes t)) (tableRows t) target₀ (signsOf chosen) target (rw e at (r .so-far))
+      ∙ ap₂ (λ p n. p ++ drop n target₀) (own-widens t (ready .valid) .ownAssignment) (valid-variables t (ready .valid))

@@ -3,11 +3,11 @@ use Prim.Native.Nat.{ℕ}
 use mathlib.Core.Bool.{cond}
 use mathlib.Core.List.{List, _++_}
 use mathlib.Core.Option.{Option, none, some}
-use lib.ListN.{length, take, drop}
+use lib.ListN.{length, drop}
 use lib.Dec.{ltb}
 use Rattle.wcsp.specs.Resolve.{Pair, nextPair}
 use Rattle.wcsp.specs.Rebuild.{rebuilt}
-use Rattle.table.specs.Meaning.{variablesOf, tableRows, domains}
+use Rattle.table.specs.Meaning.{variablesOf, tableSizes, ownRows}
 use Rattle.table.specs.Valid.{validTable}
 
 -- a number, 0 for success, and the target as the call returns
@@ -17,7 +17,7 @@ pub record PlanReturned : Type 0 where
 
 -- the rebuilt assignment (document 01: plan) of a table's variables
 unfoldable pub tableAssignment : List ℕ → List ℕ
-tableAssignment t = take (variablesOf t) (rebuilt (domains t) (tableRows t))
+tableAssignment t = rebuilt (tableSizes t) (ownRows t)
 
 -- 13 while a pair remains
 unfoldable pub planOn : List ℕ → List ℕ → Option Pair → PlanReturned
@@ -32,5 +32,5 @@ planCall t target =
     cond (validTable t)
     (cond (ltb (length target) (variablesOf t))
     (record { number = 10; target = target })
-    (planOn t target (nextPair (domains t) (tableRows t))))
+    (planOn t target (nextPair (tableSizes t) (ownRows t))))
     (record { number = 9; target = target })

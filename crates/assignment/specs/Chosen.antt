@@ -1,4 +1,4 @@
--- The values chosen so far, carried by a clause: at each of their variables the one value alone. A row is falsified there if it has nothing in common with it.
+-- Inner: the values chosen so far, carried by a clause: at each of their variables the one value alone. A row is falsified there if it has nothing in common with it.
 use Prim.Native.Nat.{ℕ, _≤_, _^_}
 use mathlib.Core.Path.{_≡_}
 use mathlib.Core.Bool.{Bool, true, _&&_}

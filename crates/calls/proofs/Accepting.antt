@@ -12,12 +12,10 @@ use lib.Dec.{eqb}
 use borrow.Author.Tests.{eq-eqb, eqb-true}
 use Rattle.wcsp.specs.Row.{Row, emptyWeight}
 use Rattle.wcsp.specs.Entry.{cost}
-use Rattle.fields.specs.Limits.{maxVariables}
-use Rattle.fields.specs.Padding.{padded}
 use Rattle.fields.proofs.Assigning.{assignment-of}
 use Rattle.input.specs.Instance.{sizesOf, entriesOf}
 use Rattle.table.specs.Layout.{capacityIn, capacity}
-use Rattle.table.specs.Meaning.{tableRows}
+use Rattle.table.specs.Meaning.{ownRows}
 use Rattle.encoding.specs.Calls.{encodedRows, encodeCall}
 use Rattle.assignment.specs.Calls.{tableAssignment}
 use Rattle.checker.specs.Replay.{replay}
@@ -30,6 +28,7 @@ use Rattle.calls.specs.Derivation.{DerivationAccepted, DrivenAccepted}
 use Rattle.calls.specs.Driver.{driveWords, callsAsked, DriveReturned, startOf, driveReturns, driveAll}
 use Rattle.calls.proofs.Reaching.{reaches-replayed}
 use Rattle.calls.proofs.Moving.{moved-held, reached}
+use Rattle.calls.proofs.Held.{held-assignment}
 use Rattle.calls.proofs.Upholding.{upheld}
 use Rattle.calls.proofs.Driving.{drivesCalls}
 
@@ -38,11 +37,11 @@ unfolding capacityIn
 capacity-small len n = omega arith
 
 -- the best assignment with the empty row's weight is a claim that holds
-best-claim : (inst plan : List ℕ) (rs : List Row) → Best (sizesOf inst) (entriesOf inst) plan (emptyWeight maxVariables rs)
-    → claimHolds inst plan (emptyWeight maxVariables rs) rs ≡ true
+best-claim : (inst plan : List ℕ) (rs : List Row) → Best (sizesOf inst) (entriesOf inst) plan (emptyWeight (length (sizesOf inst)) rs)
+    → claimHolds inst plan (emptyWeight (length (sizesOf inst)) rs) (emptyWeight (length (sizesOf inst)) rs) ≡ true
 unfolding claimHolds
 best-claim inst plan rs b =
-    let w = emptyWeight maxVariables rs in
+    let w = emptyWeight (length (sizesOf inst)) rs in
     rw (
       assignment-of (b .inRange),
       eq-eqb w w refl,
@@ -63,13 +62,13 @@ derivationAccepted inst t calls e done work long =
     let m = reached inst t c calls in
     let rs = m .rows in
     let h = moved-held a first m in
-    let b : Best (sizesOf inst) (entriesOf inst) (tableAssignment (st .table)) (emptyWeight maxVariables rs)
-    = rw (h .rows) at (upheld a first m .best done) in
-    let replayed : replay (padded (sizesOf inst)) (capacity (length t) (length (sizesOf inst))) (encodedRows inst) 0 (st .derivation)
+    let b : Best (sizesOf inst) (entriesOf inst) (tableAssignment (st .table)) (emptyWeight (length (sizesOf inst)) rs)
+    = rw (held-assignment h) (rw (h .rows) at (upheld a first m .best done)) in
+    let replayed : replay (sizesOf inst) (capacity (length t) (length (sizesOf inst))) (encodedRows inst) 0 (st .derivation)
     ≡ record { number = 0; steps = 0 + length (st .derivation); rows = rs }
     = reaches-replayed (a .sizes) (a .entries) (capacity-small (length t) (length (sizesOf inst))) 0 first (m .reaches) in
     rw (
-      check-judged inst (st .derivation) (tableAssignment (st .table)) (emptyWeight maxVariables (tableRows (st .table))) work
+      check-judged inst (st .derivation) (tableAssignment (st .table)) (emptyWeight (length (sizesOf inst)) (ownRows (st .table))) work
           (coded-number inst work (same-length inst t work long c)),
       long,
       replayed,

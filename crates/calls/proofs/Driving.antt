@@ -10,7 +10,7 @@ use lib.ListN.{length, getD, take, drop, take-append-drop, drop-of-length-le}
 use lib.Seq.{length-take-le, drop-cons, drop-drop}
 use borrow.Author.Tests.{eq-eqb, ne-eqb}
 use Rattle.fields.specs.declared.Answer.{Answer}
-use Rattle.encoding.specs.Calls.{encodeCall}
+use Rattle.encoding.specs.Calls.{EncodeReturned, encodeCall}
 use Rattle.checker.proofs.Encoded.{GoodEncoding, coded, encode-refused}
 use Rattle.calls.specs.Calls.{Call, afterCalls}
 use Rattle.calls.specs.Demand.{UpheldFrom}
@@ -85,7 +85,11 @@ drive-upheld inst t c out target ws =
 
 -- ---- the whole call
 
-module _ (inst t calls out target : List ℕ) (a : Answer) (t₀ : List ℕ) (coding : (a ≡ encodeCall inst t .answer) × (t₀ ≡ encodeCall inst t .table)) where
+module _ (inst t calls out target : List ℕ) (a : Answer) (t₀ : List ℕ)
+    (called : _≡_ {A = EncodeReturned} (record { answer = a; table = t₀ }) (encodeCall inst t)) where
+  coding : (a ≡ encodeCall inst t .answer) × (t₀ ≡ encodeCall inst t .table)
+  coding = (ap (λ r. r .answer) called, ap (λ r. r .table) called)
+
   pub drive-refused : (a .number ≡ 0 → ⊥)
       → Drives inst t calls out target (record { answer = record { number = a .number; steps = 0 }; table = t₀; out = out; target = target })
   unfolding driveAll

@@ -3,15 +3,14 @@ use Prim.Native.Nat.{ℕ, _≤_, _<_, min}
 use mathlib.Core.Path.{_≡_, ap₂}
 use mathlib.Core.List.{List, [], _++_}
 use mathlib.Core.Option.{Option, none, some}
-use lib.ListN.{length, take, drop}
+use lib.ListN.{length, drop}
 use borrow.Author.Tests.{lt-ltb, le-ltb}
 use Rattle.wcsp.specs.Row.{Row}
 use Rattle.wcsp.specs.Resolve.{Pair, nextPair}
 use Rattle.wcsp.specs.Rebuild.{rebuilt}
-use Rattle.fields.specs.Padding.{padded}
 use Rattle.table.specs.Layout.{capacity, tableWords}
-use Rattle.table.proofs.Held.{Held}
-use Rattle.stepping.specs.Advance.{withRows}
+use Rattle.table.proofs.Own.{Held}
+use Rattle.stepping.specs.Step.{withRows}
 use Rattle.resolution.specs.Step.{oneStep}
 use Rattle.resolution.specs.Run.{runRows}
 use Rattle.resolution.specs.Calls.{stepReturns, stepCall, runReturns, runCall}
@@ -21,34 +20,34 @@ module _ {t : List ℕ} {len : ℕ} {ds : List ℕ} {rs : List Row} (h : Held t 
   pub held-rows : (rs′ : List Row) → withRows t rs′ ≡ tableWords len ds rs′
   held-rows rs′ = ap₂ (λ n sizes. tableWords n sizes rs′) (h .long) (h .sizes)
 
-  pub held-step : stepCall t ≡ stepReturns t (oneStep (padded ds) (capacity len (length ds)) rs)
+  pub held-step : stepCall t ≡ stepReturns t (oneStep ds (capacity len (length ds)) rs)
   unfolding stepCall
-  held-step = rw (h .valid, h .domained, h .capacious, h .rows)
+  held-step = rw (h .valid, h .sizes, h .capacious, h .rows)
 
   pub held-run : (limit : ℕ) (slice : List ℕ)
-      → runCall t limit slice ≡ runReturns t slice (runRows (padded ds) (capacity len (length ds)) (min limit (length slice)) rs [])
+      → runCall t limit slice ≡ runReturns (length ds) t slice (runRows ds (capacity len (length ds)) (min limit (length slice)) rs [])
   unfolding runCall
-  held-run limit slice = rw (h .valid, h .domained, h .capacious, h .rows)
+  held-run limit slice = rw (h .valid, h .capacious, h .variables, h .sizes, h .rows)
 
-  pub held-assignment : tableAssignment t ≡ take (length ds) (rebuilt (padded ds) rs)
+  pub held-assignment : tableAssignment t ≡ rebuilt ds rs
   unfolding tableAssignment
-  held-assignment = rw (h .variables, h .domained, h .rows)
+  held-assignment = rw (h .sizes, h .rows)
 
   pub plan-short : (target : List ℕ) → length target < length ds → planCall t target ≡ record { number = 10; target = target }
   unfolding planCall
   plan-short target l = rw (h .valid, h .variables, lt-ltb (length target) (length ds) l)
 
   -- a target long enough
-  plan-room : (target : List ℕ) (o : Option Pair) → length ds ≤ length target → nextPair (padded ds) rs ≡ o → planCall t target ≡ planOn t target o
+  plan-room : (target : List ℕ) (o : Option Pair) → length ds ≤ length target → nextPair ds rs ≡ o → planCall t target ≡ planOn t target o
   unfolding planCall
-  plan-room target o l e = rw (h .valid, h .variables, le-ltb (length target) (length ds) l, h .domained, h .rows, e)
+  plan-room target o l e = rw (h .valid, h .variables, le-ltb (length target) (length ds) l, h .sizes, h .rows, e)
 
-  pub plan-early : (target : List ℕ) (pr : Pair) → length ds ≤ length target → nextPair (padded ds) rs ≡ some pr
+  pub plan-early : (target : List ℕ) (pr : Pair) → length ds ≤ length target → nextPair ds rs ≡ some pr
       → planCall t target ≡ record { number = 13; target = target }
   unfolding planOn
   plan-early target pr l e = plan-room target (some pr) l e
 
-  pub plan-written : (target : List ℕ) → length ds ≤ length target → nextPair (padded ds) rs ≡ none
-      → planCall t target ≡ record { number = 0; target = tableAssignment t ++ drop (length ds) target }
+  pub plan-written : (target : List ℕ) → length ds ≤ length target → nextPair ds rs ≡ none
+      → planCall t target ≡ record { number = 0; target = rebuilt ds rs ++ drop (length ds) target }
   unfolding planOn
-  plan-written target l e = rw (plan-room target none l e, h .variables)
+  plan-written target l e = rw (plan-room target none l e, h .variables, held-assignment)

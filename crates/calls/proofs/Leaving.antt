@@ -11,16 +11,15 @@ use borrow.Author.Tests.{eq-eqb, ne-eqb}
 use denote.Enum.Declared.{tagOf}
 use types.Run.{OneOf, miss}
 use Rattle.words.specs.Layout.{payloadOf}
-use Rattle.table.specs.Meaning.{tableRows, domains}
+use Rattle.table.specs.Meaning.{tableSizes, ownRows, capacityOf}
 use Rattle.table.specs.Valid.{validTable}
-use Rattle.table.specs.Check.{capacityOf}
 use Rattle.resolution.proofs.StepAnswer.{the-type}
 use Rattle.resolution.specs.declared.StepAnswer.{StepAnswer}
 use Rattle.resolution.specs.declared.StepAnswer.the-variants.{Refused, Done, Stepped}
 use Rattle.resolution.specs.declared.RunAnswer.{RunAnswer}
 use Rattle.resolution.specs.Run.{runRows}
-use Rattle.resolution.specs.Calls.{stepCall, RunReturned, runCall}
-use Rattle.assignment.specs.Calls.{planCall}
+use Rattle.resolution.specs.Calls.{StepReturned, stepCall, RunReturned, runCall}
+use Rattle.assignment.specs.Calls.{PlanReturned, planCall}
 use Rattle.calls.specs.Calls.{runAsked, planAsked, wordsOfStep, afterCall}
 use Rattle.calls.specs.Driver.{limitOf, sliceOf, targetAfter}
 use Rattle.calls.specs.Slices.{stateIn, stepIn, Leaves}
@@ -59,7 +58,14 @@ module _ (t out : List ℕ) (made : ℕ) (fits : made ≤ length out) where
       → Leaves out made (stepIn t out made) t out made
   step-full e = rw (eq-eqb made (length out) e) (unchanged t out made fits)
 
-  module _ (left : made ≡ length out → ⊥) (a : StepAnswer) (t′ : List ℕ) (answered : a ≡ stepCall t .answer) (table : t′ ≡ stepCall t .table) where
+  module _ (left : made ≡ length out → ⊥) (a : StepAnswer) (t′ : List ℕ)
+      (called : _≡_ {A = StepReturned} (record { answer = a; table = t′ }) (stepCall t)) where
+    answered : a ≡ stepCall t .answer
+    answered = ap (λ r. r .answer) called
+
+    table : t′ ≡ stepCall t .table
+    table = ap (λ r. r .table) called
+
     pub step-none : OneOf (0 ∷ 1 ∷ []) (tagOf the-type a)
         → Leaves out made (stepIn t out made) t′ out made
     unfolding afterCall
@@ -98,7 +104,7 @@ run-fronted t limit slice = go (validTable t) refl
     go true e =
         rw e
         (record {
-          words = runRows (domains t) (capacityOf t) (min limit (length slice)) (tableRows t) [] .made;
+          words = runRows (tableSizes t) (capacityOf t) (min limit (length slice)) (ownRows t) [] .made;
           steps = refl;
           left = refl;
         })
@@ -119,26 +125,29 @@ run-few t limit slice ys e long =
 
 module _ (t out : List ℕ) (made : ℕ) (fits : made ≤ length out) (w p l : ℕ) (payload : p ≡ payloadOf w) (lent : l ≡ min (p % 16384) (length out - made)) where
   -- the step words of a run in the part of l words from made on have a place
-  pub run-room : (a : RunAnswer) (ys : List ℕ) → a ≡ runCall t (p / 16384) (take (made + l - made) (drop made out)) .answer
-      → ys ≡ runCall t (p / 16384) (take (made + l - made) (drop made out)) .slice
+  pub run-room : (a : RunAnswer) (t′ ys : List ℕ)
+      → _≡_ {A = RunReturned} (record { answer = a; table = t′; slice = ys }) (runCall t (p / 16384) (take (made + l - made) (drop made out)))
       → length ys ≡ length (take (made + l - made) (drop made out)) → made + a .steps ≤ length out
-  run-room a ys ea ey long =
+  run-room a t′ ys called long =
+      let ea : a ≡ runCall t (p / 16384) (take (made + l - made) (drop made out)) .answer = ap (λ r. r .answer) called in
+      let ey : ys ≡ runCall t (p / 16384) (take (made + l - made) (drop made out)) .slice = ap (λ r. r .slice) called in
       let few : a .steps ≤ length (take (made + l - made) (drop made out)) = rw ea (run-few t (p / 16384) (take (made + l - made) (drop made out)) ys ey long) in
       omega (arith, simp (length-take, length-drop) at few)
 
   -- that part put back as the run left it
   pub run-made : (a : RunAnswer) (t′ ys : List ℕ)
-      → (a ≡ runCall t (p / 16384) (take (made + l - made) (drop made out)) .answer)
-      × (t′ ≡ runCall t (p / 16384) (take (made + l - made) (drop made out)) .table)
-      × (ys ≡ runCall t (p / 16384) (take (made + l - made) (drop made out)) .slice)
+      → _≡_ {A = RunReturned} (record { answer = a; table = t′; slice = ys }) (runCall t (p / 16384) (take (made + l - made) (drop made out)))
       → length ys ≡ length (take (made + l - made) (drop made out))
       → Leaves out made (afterCall (stateIn t out made) (runAsked (limitOf w) (take (sliceOf w) (drop made out)))) t′
       (take made out ++ (ys ++ drop (made + l - made) (drop made out))) (made + a .steps)
   unfolding afterCall
-  run-made a t′ ys (ea, et, ey) long =
+  run-made a t′ ys called long =
       let limit = p / 16384 in
       let n = made + l - made in
       let free = drop made out in
+      let ea : a ≡ runCall t limit (take n free) .answer = ap (λ r. r .answer) called in
+      let et : t′ ≡ runCall t limit (take n free) .table = ap (λ r. r .table) called in
+      let ey : ys ≡ runCall t limit (take n free) .slice = ap (λ r. r .slice) called in
       let size : n ≡ min (p % 16384) (length free) = rw (length-drop made out) (omega arith) in
       let same : take n free ≡ take (p % 16384) free = ap (λ m. take m free) size ∙ take-min (p % 16384) free in
       let few : a .steps ≤ length (take n free) = rw ea (run-few t limit (take n free) ys ey long) in
@@ -157,10 +166,11 @@ module _ (t out : List ℕ) (made : ℕ) (fits : made ≤ length out) (w p l : �
 
 -- ---- a plan call
 
-pub plan-made : (t target : List ℕ) (w p l : ℕ) → p ≡ payloadOf w → l ≡ min p (length target) → (ys : List ℕ) → ys ≡ planCall t (take l target) .target
-    → ys ++ drop l target ≡ targetAfter t target (planAsked (take (payloadOf w) target))
+pub plan-made : (t target : List ℕ) (w p l : ℕ) → p ≡ payloadOf w → l ≡ min p (length target) → (number : ℕ) (ys : List ℕ)
+    → _≡_ {A = PlanReturned} (record { number = number; target = ys }) (planCall t (take l target)) → ys ++ drop l target ≡ targetAfter t target (planAsked (take (payloadOf w) target))
 unfolding targetAfter
-plan-made t target w p l payload lent ys e =
+plan-made t target w p l payload lent number ys called =
+    let e : ys ≡ planCall t (take l target) .target = ap (λ r. r .target) called in
     let same : take l target ≡ take p target = ap (λ m. take m target) lent ∙ take-min p target in
     let long : length (take p target) ≡ l = length-take p target ∙ sym lent in
     rw (← payload, long, ← same, e)

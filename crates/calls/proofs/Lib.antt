@@ -7,4 +7,5 @@ pub mod Accepting
 pub mod Leaving
 pub mod Asking
 pub mod Driving
+pub mod WordCases
 pub mod Witness

@@ -12,15 +12,14 @@ use borrow.Author.Tests.{ltb-false}
 use Rattle.wcsp.specs.Row.{Row}
 use Rattle.wcsp.specs.Entry.{Entry}
 use Rattle.wcsp.specs.Resolve.{Pair, nextPair, resolve}
-use Rattle.fields.specs.Padding.{padded}
 use Rattle.input.specs.Instance.{sizesOf}
 use Rattle.table.specs.Layout.{capacity, tableWords}
-use Rattle.table.proofs.Held.{Held}
+use Rattle.table.proofs.Own.{Held}
 use Rattle.encoding.specs.Calls.{encodedRows}
-use Rattle.stepping.specs.Step.{finished, refusing, stepping}
+use Rattle.stepping.specs.Step.{refusing, stepsTo}
 use Rattle.resolution.specs.Run.{Ran, runRows}
 use Rattle.resolution.specs.Calls.{stepReturns, stepCall, runCall}
-use Rattle.resolution.proofs.Single.{no-step}
+use Rattle.resolution.proofs.Stepped.{no-step}
 use Rattle.checker.proofs.Encoded.{GoodEncoding, coded, coded-table}
 use Rattle.checker.proofs.Kept.{Takes}
 use Rattle.checker.proofs.Replaying.{Left, left-held}
@@ -38,11 +37,11 @@ encodesExactly inst t e = coded-table inst t (coded inst t e)
 pub record Moved (len : ℕ) (ds : List ℕ) (rs : List Row) (t′ ws : List ℕ) : Type 0 where
   pub rows : List Row
   pub table : t′ ≡ tableWords len ds rows
-  pub reaches : Reaches (padded ds) (capacity len (length ds)) rs ws rows
+  pub reaches : Reaches ds (capacity len (length ds)) rs ws rows
 
 -- the run that a run call with this limit and this slice makes
 abbrev pub ran : ℕ → List ℕ → List Row → ℕ → List ℕ → Ran
-ran len ds rs limit slice = runRows (padded ds) (capacity len (length ds)) (min limit (length slice)) rs []
+ran len ds rs limit slice = runRows ds (capacity len (length ds)) (min limit (length slice)) rs []
 
 -- steps on from what was reached
 moved-on : {len : ℕ} {ds t′ t″ ws vs : List ℕ} {rs : List Row} (m : Moved len ds rs t′ ws) → Moved len ds (m .rows) t″ vs
@@ -56,33 +55,33 @@ module _ {len : ℕ} {ds : List ℕ} {es : List Entry} (a : Takes len ds es) whe
   module _ {t′ : List ℕ} {rs : List Row} (l : Left ds es cap rs) (h : Held t′ len ds rs) where
     -- ---- a step call
 
-    pub step-done : nextPair (padded ds) rs ≡ none → stepCall t′ ≡ stepReturns t′ finished
-    step-done e = rw (held-step h, no-step (padded ds) cap rs e)
+    pub step-done : nextPair ds rs ≡ none → stepCall t′ ≡ stepReturns t′ none
+    step-done e = rw (held-step h, no-step ds cap rs e)
 
-    pub step-left : (pr : Pair) → nextPair (padded ds) rs ≡ some pr
-        → stepCall t′ ≡ stepReturns t′ (cond (ltb cap (length (resolve (padded ds) pr rs))) (refusing 12) (stepping pr (resolve (padded ds) pr rs)))
+    pub step-left : (pr : Pair) → nextPair ds rs ≡ some pr
+        → stepCall t′ ≡ stepReturns t′ (some (cond (ltb cap (length (resolve ds pr rs))) (refusing 12) (stepsTo pr (resolve ds pr rs))))
     step-left pr e = rw (held-step h, next-step (a .entries) cap pr l e)
 
     step-moved : Moved len ds rs (stepCall t′ .table) (wordsOfStep (stepCall t′ .answer))
     unfolding stepReturns wordsOfStep
-    step-moved = go (nextPair (padded ds) rs) refl
+    step-moved = go (nextPair ds rs) refl
       where
-        fitting : (pr : Pair) → nextPair (padded ds) rs ≡ some pr → (b : Bool) → ltb cap (length (resolve (padded ds) pr rs)) ≡ b
-            → Moved len ds rs (stepReturns t′ (cond b (refusing 12) (stepping pr (resolve (padded ds) pr rs))) .table)
-            (wordsOfStep (stepReturns t′ (cond b (refusing 12) (stepping pr (resolve (padded ds) pr rs))) .answer))
+        fitting : (pr : Pair) → nextPair ds rs ≡ some pr → (b : Bool) → ltb cap (length (resolve ds pr rs)) ≡ b
+            → Moved len ds rs (stepReturns t′ (some (cond b (refusing 12) (stepsTo pr (resolve ds pr rs)))) .table)
+            (wordsOfStep (stepReturns t′ (some (cond b (refusing 12) (stepsTo pr (resolve ds pr rs)))) .answer))
         fitting pr e true f = record { rows = rs; table = h .words; reaches = still }
         fitting pr e false f =
-            let rs′ = resolve (padded ds) pr rs in
+            let rs′ = resolve ds pr rs in
             record { rows = rs′; table = held-rows h rs′; reaches = onward pr e (ltb-false cap (length rs′) f) still }
 
-        go : (o : Option Pair) → nextPair (padded ds) rs ≡ o → Moved len ds rs (stepCall t′ .table) (wordsOfStep (stepCall t′ .answer))
+        go : (o : Option Pair) → nextPair ds rs ≡ o → Moved len ds rs (stepCall t′ .table) (wordsOfStep (stepCall t′ .answer))
         go none e = rw (step-done e) (record { rows = rs; table = h .words; reaches = still })
-        go (some pr) e = rw (step-left pr e) (fitting pr e (ltb cap (length (resolve (padded ds) pr rs))) refl)
+        go (some pr) e = rw (step-left pr e) (fitting pr e (ltb cap (length (resolve ds pr rs))) refl)
 
     -- ---- a run
 
     module _ (limit : ℕ) (slice : List ℕ) where
-      pub ran-runs : Runs (padded ds) cap (min limit (length slice)) rs [] (ran len ds rs limit slice)
+      pub ran-runs : Runs ds cap (min limit (length slice)) rs [] (ran len ds rs limit slice)
       ran-runs = run-runs (a .entries) cap (min limit (length slice)) rs [] l
 
       pub run-table : runCall t′ limit slice .table ≡ tableWords len ds (ran len ds rs limit slice .rows)

@@ -14,11 +14,9 @@ use Rattle.wcsp.proofs.NextPair.{next-permitted}
 use Rattle.words.specs.Layout.{kindOf}
 use Rattle.words.proofs.Reading.{read-step}
 use Rattle.words.proofs.Inverse.{step-kind}
-use Rattle.fields.specs.Padding.{padded}
 use Rattle.fields.specs.Entries.{FieldSizes, Entries}
-use Rattle.stepping.specs.Step.{stepping, pairWord}
+use Rattle.stepping.specs.Step.{stepsTo, pairWord}
 use Rattle.checker.specs.Replay.{namedPair, replayOn, replayWord, replayNext, replay}
-use Rattle.checker.proofs.Instances.{twelve}
 use Rattle.checker.proofs.Kept.{step-keeps}
 use Rattle.checker.proofs.Replaying.{Left, allowed-room, permitted-passes}
 use Rattle.calls.specs.Calls.{Derives}
@@ -43,23 +41,23 @@ reaches-steps (onward pr e f a) = Steps.step pr e (reaches-steps a)
 
 module _ {ds : List ℕ} {es : List Entry} {cap : ℕ} where
   -- one step on the next pair
-  pub next-left : {rs : List Row} (pr : Pair) → Left ds es cap rs → nextPair (padded ds) rs ≡ some pr → length (resolve (padded ds) pr rs) ≤ cap
-      → Left ds es cap (resolve (padded ds) pr rs)
-  next-left {rs} pr l e f = record { keeps = step-keeps (l .keeps) pr (next-permitted (padded ds) rs pr e); fits = f }
+  pub next-left : {rs : List Row} (pr : Pair) → Left ds es cap rs → nextPair ds rs ≡ some pr → length (resolve ds pr rs) ≤ cap
+      → Left ds es cap (resolve ds pr rs)
+  next-left {rs} pr l e f = record { keeps = step-keeps (l .keeps) pr (next-permitted ds rs pr e); fits = f }
 
-  pub reaches-left : {rs rs′ : List Row} {ws : List ℕ} → Left ds es cap rs → Reaches (padded ds) cap rs ws rs′ → Left ds es cap rs′
+  pub reaches-left : {rs rs′ : List Row} {ws : List ℕ} → Left ds es cap rs → Reaches ds cap rs ws rs′ → Left ds es cap rs′
   reaches-left l still = l
   reaches-left l (onward pr e f a) = reaches-left (next-left pr l e f) a
 
   module _ (s : FieldSizes ds) (n : Entries ds 0 es) (small : cap ≤ 4096) where
     -- the step word of the next pair is replayed
-    word-replayed : {rs : List Row} (pr : Pair) → Left ds es cap rs → nextPair (padded ds) rs ≡ some pr
-        → length (resolve (padded ds) pr rs) ≤ cap
-        → replayWord (padded ds) cap rs (pairWord pr) ≡ stepping pr (resolve (padded ds) pr rs)
+    word-replayed : {rs : List Row} (pr : Pair) → Left ds es cap rs → nextPair ds rs ≡ some pr
+        → length (resolve ds pr rs) ≤ cap
+        → replayWord ds cap rs (pairWord pr) ≡ stepsTo pr (resolve ds pr rs)
     unfolding replayWord namedPair replayOn
     word-replayed {rs} pr l e f =
-        let m = next-permitted (padded ds) rs pr e in
-        let t = twelve s in
+        let m = next-permitted ds rs pr e in
+        let t = s .most in
         let v : pr .variable < 16 = omega (arith, m .known) in
         let j : pr .second < 4096 = omega (arith, m .inTable, l .fits) in
         let i : pr .first < 4096 = omega (arith, m .ordered) in
@@ -70,13 +68,13 @@ module _ {ds : List ℕ} {es : List Entry} {cap : ℕ} where
           a,
           b,
           c,
-          permitted-passes (padded ds) rs pr m,
+          permitted-passes ds rs pr m,
           allowed-room n cap (l .keeps) pr m,
-          le-ltb cap (length (resolve (padded ds) pr rs)) f,
+          le-ltb cap (length (resolve ds pr rs)) f,
         )
 
-    pub reaches-replayed : {rs rs′ : List Row} {ws : List ℕ} (k : ℕ) → Left ds es cap rs → Reaches (padded ds) cap rs ws rs′
-        → replay (padded ds) cap rs k ws ≡ record { number = 0; steps = k + length ws; rows = rs′ }
+    pub reaches-replayed : {rs rs′ : List Row} {ws : List ℕ} (k : ℕ) → Left ds es cap rs → Reaches ds cap rs ws rs′
+        → replay ds cap rs k ws ≡ record { number = 0; steps = k + length ws; rows = rs′ }
     unfolding replay replayNext
     reaches-replayed k l still = rw (added k)
       where

@@ -1,56 +1,78 @@
--- Demand 3: its sentences for rows reached by the invariant's steps. Costs, bounds and the best assignment come from the theory over twelve
--- variables and go back to the field's own through the padding.
-use Prim.Native.Nat.{ℕ, min}
+-- Demand 3: its sentences for rows reached by the invariant's steps.
+use Prim.Native.Nat.{ℕ, _<_, _≤_, min}
 use native.Mathlib.Omega.{arith}
 use mathlib.Core.Path.{_≡_, refl, sym, ap, _∙_}
+use mathlib.Core.Logic.{_⊎_, inl, inr, _↔_}
 use mathlib.Core.Bool.{Bool, true, false, cond}
-use mathlib.Core.List.{List}
+use mathlib.Core.List.{List, [], _∷_}
 use mathlib.Core.Option.{Option, none, some}
-use lib.ListN.{length, take}
+use lib.ListN.{length}
 use lib.Dec.{ltb}
+use borrow.Author.Tests.{lt-ltb, le-ltb}
 use Rattle.wcsp.specs.Row.{Row, emptyWeight}
-use Rattle.wcsp.specs.Entry.{Entry, cost}
+use Rattle.wcsp.specs.Entry.{Entry}
 use Rattle.wcsp.specs.Resolve.{Pair, nextPair, resolve}
 use Rattle.wcsp.specs.Rebuild.{rebuilt}
 use Rattle.wcsp.specs.Theorems.{Optimal}
 use Rattle.wcsp.proofs.Bound.{stepsBounded, bound-fixed}
 use Rattle.wcsp.proofs.Completeness.{optimality}
-use Rattle.fields.specs.Limits.{maxVariables}
-use Rattle.fields.specs.Padding.{padded}
-use Rattle.fields.proofs.Padding.{padded-parts, cost-padded}
-use Rattle.table.specs.Layout.{capacity}
-use Rattle.table.specs.Meaning.{tableRows}
-use Rattle.table.proofs.Held.{Held}
-use Rattle.stepping.specs.Step.{refusing, stepping}
-use Rattle.resolution.specs.declared.StepAnswer.the-variants.{Done}
-use Rattle.resolution.specs.Run.{Ending}
-use Rattle.resolution.specs.Calls.{stepReturns, stepCall, outcomeOf, runCall}
-use Rattle.assignment.specs.Calls.{tableAssignment}
+use Rattle.table.specs.Layout.{capacity, tableWords}
+use Rattle.table.specs.Meaning.{ownRows}
+use Rattle.table.proofs.Own.{Held}
+use Rattle.stepping.specs.Step.{Stepping, refusing, stepsTo, pairWord}
+use Rattle.resolution.specs.declared.Outcome.{Outcome}
+use Rattle.resolution.specs.Calls.{stepReturns, stepCall, runCall}
+use Rattle.resolution.specs.Numbers.{stepNumber, stepFields, outcomeNumber, outcomeField, runNumber}
 use Rattle.checker.specs.Theorems.{Best}
-use Rattle.checker.proofs.Instances.{twelve, positive}
 use Rattle.checker.proofs.Encoded.{GoodEncoding, coded}
-use Rattle.checker.proofs.Kept.{Takes, keeps-cost, keeps-below}
+use Rattle.checker.proofs.Kept.{Takes, keeps-below}
 use Rattle.checker.proofs.Replaying.{Left, left-held}
 use Rattle.checker.proofs.Claims.{coded-takes, encoded-left}
 use Rattle.calls.specs.Calls.{Call, afterCalls, started}
-use Rattle.calls.specs.Demand.{RunEnds, Upheld, UpheldFrom, Demand3}
+use Rattle.calls.specs.Demand.{StepGives, RunEnds, Upheld, UpheldFrom, Demand3}
 use Rattle.calls.proofs.Reaching.{reaches-derives, reaches-steps, reaches-left}
-use Rattle.calls.proofs.Held.{held-run, held-assignment, plan-short, plan-early, plan-written}
+use Rattle.calls.proofs.Held.{held-rows, held-run, plan-short, plan-early, plan-written}
 use Rattle.calls.proofs.Running.{Ends, noneLeft, limitMet, noRoom}
 use Rattle.calls.proofs.Moving.{Moved, step-done, step-left, ran, ran-runs, run-table, moved-left, moved-held, reached}
 
 -- what a run's ending says, in the words of the demand
-ends-run : {ds : List ℕ} {cap most n : ℕ} {rs : List Row} {e : Ending} → Ends ds cap most n rs e → RunEnds ds cap most n rs (outcomeOf e)
-unfolding outcomeOf
+ends-run : {ds : List ℕ} {cap most n : ℕ} {rs : List Row} {e : Outcome} → Ends ds cap most n rs e → RunEnds ds cap most n rs e
+unfolding outcomeNumber
 ends-run (noneLeft e) = e
 ends-run (limitMet l pr e) = (l, (pr, e))
 ends-run (noRoom l pr e f) = (refl, l, (pr, e, f))
 
+ends-number : {ds : List ℕ} {cap most n : ℕ} {rs : List Row} {e : Outcome} → Ends ds cap most n rs e → (outcomeNumber e ≡ 0) ⊎ (outcomeNumber e ≡ 12)
+unfolding outcomeNumber
+ends-number (noneLeft e) = inl refl
+ends-number (limitMet l pr e) = inl refl
+ends-number (noRoom l pr e f) = inr refl
+
+ends-done : {ds : List ℕ} {cap most n : ℕ} {rs : List Row} {e : Outcome} → Ends ds cap most n rs e → (outcomeField e ≡ 0) ↔ (nextPair ds rs ≡ none)
+unfolding outcomeField
+ends-done (noneLeft e) = (λ z. e, λ z. refl)
+ends-done (limitMet l pr e) = (λ (z : _≡_ {A = ℕ} 1 0). absurd (omega arith), λ f. absurd (let z : _≡_ {A = ℕ} 0 1 = cc in omega arith))
+ends-done (noRoom l pr e f) = (λ (z : _≡_ {A = ℕ} 2 0). absurd (omega arith), λ g. absurd (let z : _≡_ {A = ℕ} 0 1 = cc in omega arith))
+
+-- a step call's number, fields and table, from what it returns
+gives : (t : List ℕ) (s : Option Stepping) → stepCall t ≡ stepReturns t s
+    → StepGives t (stepNumber (stepReturns t s .answer)) (stepFields (stepReturns t s .answer)) (stepReturns t s .table)
+gives t s e = (ap (λ r. stepNumber (r .answer)) e, ap (λ r. stepFields (r .answer)) e, ap (λ r. r .table) e)
+
 -- a step call that found a pair did not answer done
-not-done : (t : List ℕ) (b : Bool) (pr : Pair) (rs : List Row) → stepReturns t (cond b (refusing 12) (stepping pr rs)) .answer ≡ Done → ⊥
-unfolding stepReturns
-not-done t true pr rs e = let z : _≡_ {A = ℕ} 0 1 = cc in omega arith
-not-done t false pr rs e = let z : _≡_ {A = ℕ} 0 1 = cc in omega arith
+not-done : (t : List ℕ) (b : Bool) (pr : Pair) (rs : List Row)
+    → stepFields (stepReturns t (some (cond b (refusing 12) (stepsTo pr rs))) .answer) ≡ 1 ∷ (0 ∷ []) → ⊥
+unfolding stepReturns stepFields
+not-done t true pr rs e = let z : _≡_ {A = ℕ} 0 1 = ap first e in omega arith
+  where
+    first : List ℕ → ℕ
+    first [] = 0
+    first (x ∷ xs) = x
+not-done t false pr rs e = let z : _≡_ {A = ℕ} 0 1 = ap first e in omega arith
+  where
+    first : List ℕ → ℕ
+    first [] = 0
+    first (x ∷ xs) = x
 
 module _ {len : ℕ} {ds : List ℕ} {es : List Entry} (a : Takes len ds es) where
   abbrev cap : ℕ
@@ -59,51 +81,66 @@ module _ {len : ℕ} {ds : List ℕ} {es : List Entry} (a : Takes len ds es) whe
   module _ {t′ : List ℕ} {rs : List Row} (l : Left ds es cap rs) (h : Held t′ len ds rs) where
     -- ---- with no pair left
 
-    best-rows : nextPair (padded ds) rs ≡ none → Best ds es (take (length ds) (rebuilt (padded ds) rs)) (emptyWeight maxVariables rs)
+    best-rows : nextPair ds rs ≡ none → Best ds es (rebuilt ds rs) (emptyWeight (length ds) rs)
     best-rows e =
-        let o : Optimal (padded ds) rs = optimality (padded ds) rs (positive (a .sizes)) (l .keeps .valid) e in
-        let q = rebuilt (padded ds) rs in
-        let p = take (length ds) q in
-        let (padding, range) = padded-parts ds q (o .inRange) in
-        let most : emptyWeight (length (padded ds)) rs ≡ emptyWeight 12 rs = ap (λ n. emptyWeight n rs) (twelve (a .sizes)) in
+        let o : Optimal ds rs = optimality ds rs (a .sizes .positive) (l .keeps .valid) e in
         record {
-          inRange = range;
-          attained = sym (cost-padded es p) ∙ ap (cost es) (sym padding) ∙ sym (l .keeps .weights q (o .inRange)) ∙ o .attained ∙ most;
-          least = keeps-below (l .keeps) (a .sizes);
+          inRange = o .inRange;
+          attained = sym (l .keeps .weights (rebuilt ds rs) (o .inRange)) ∙ o .attained;
+          least = keeps-below (l .keeps);
         }
 
     -- ---- further calls
 
-    best-table : nextPair (padded ds) rs ≡ none → Best ds es (tableAssignment t′) (emptyWeight maxVariables rs)
-    best-table e = rw (held-assignment h) (best-rows e)
+    step-made : (pr : Pair) → nextPair ds rs ≡ some pr → length (resolve ds pr rs) ≤ cap
+        → StepGives t′ 0 (0 ∷ (pairWord pr ∷ [])) (tableWords len ds (resolve ds pr rs))
+    unfolding stepReturns stepNumber stepFields
+    step-made pr e f =
+        let rs′ = resolve ds pr rs in
+        let g = rw (le-ltb cap (length rs′) f) at (step-left a l h pr e) in
+        let (x, y, z) = gives t′ (some (stepsTo pr rs′)) g in
+        (x, y, z ∙ held-rows h rs′)
 
-    done-only : stepCall t′ .answer ≡ Done → nextPair (padded ds) rs ≡ none
-    done-only e = go (nextPair (padded ds) rs) refl
+    step-full : (pr : Pair) → nextPair ds rs ≡ some pr → cap < length (resolve ds pr rs) → StepGives t′ 12 (0 ∷ (0 ∷ [])) t′
+    unfolding stepReturns stepNumber stepFields
+    step-full pr e f = gives t′ (some (refusing 12)) (rw (lt-ltb cap (length (resolve ds pr rs)) f) at (step-left a l h pr e))
+
+    step-none : nextPair ds rs ≡ none → StepGives t′ 0 (1 ∷ (0 ∷ [])) t′
+    unfolding stepReturns stepNumber stepFields
+    step-none e = gives t′ none (step-done a l h e)
+
+    done-only : stepFields (stepCall t′ .answer) ≡ 1 ∷ (0 ∷ []) → nextPair ds rs ≡ none
+    done-only e = go (nextPair ds rs) refl
       where
-        go : (o : Option Pair) → nextPair (padded ds) rs ≡ o → o ≡ none
+        go : (o : Option Pair) → nextPair ds rs ≡ o → o ≡ none
         go none f = refl
         go (some pr) f =
             absurd
-            (not-done t′ (ltb cap (length (resolve (padded ds) pr rs))) pr (resolve (padded ds) pr rs)
-            (sym (ap (λ r. r .answer) (step-left a l h pr f)) ∙ e))
+            (not-done t′ (ltb cap (length (resolve ds pr rs))) pr (resolve ds pr rs)
+            (sym (ap (λ r. stepFields (r .answer)) (step-left a l h pr f)) ∙ e))
 
     module _ (limit : ℕ) (slice : List ℕ) where
-      after-run : tableRows (runCall t′ limit slice .table) ≡ ran len ds rs limit slice .rows
+      after-run : ownRows (runCall t′ limit slice .table) ≡ ran len ds rs limit slice .rows
       after-run = left-held a (reaches-left l (ran-runs a l h limit slice .reaches)) (run-table a l h limit slice) .rows
 
       run-ends : let r = runCall t′ limit slice in
-          RunEnds (padded ds) cap (min limit (length slice)) (r .answer .steps) (tableRows (r .table)) (r .answer .outcome)
+          RunEnds ds cap (min limit (length slice)) (r .answer .steps) (ownRows (r .table)) (r .answer .outcome)
       run-ends =
           let r = ran-runs a l h limit slice in
           let n : length (ran len ds rs limit slice .made) ≡ length (r .words) = ap length (r .made) in
           rw (after-run, held-run h limit slice, n) (ends-run (r .ends))
 
-      run-bound : let r = runCall t′ limit slice in r .answer .bound ≡ emptyWeight maxVariables (tableRows (r .table))
+      run-bound : let r = runCall t′ limit slice in r .answer .bound ≡ emptyWeight (length ds) (ownRows (r .table))
       run-bound = rw (after-run, held-run h limit slice)
+
+      run-done : let r = runCall t′ limit slice in (outcomeField (r .answer .outcome) ≡ 0) ↔ (nextPair ds (ownRows (r .table)) ≡ none)
+      run-done = rw (after-run, held-run h limit slice) (ends-done (ran-runs a l h limit slice .ends))
+
+      run-numbers : let k = runNumber (runCall t′ limit slice .answer) in (k ≡ 0) ⊎ (k ≡ 12)
+      run-numbers = rw (held-run h limit slice) (ends-number (ran-runs a l h limit slice .ends))
 
   module _ {from : List Row} (first : Left ds es cap from) where
     pub upheld : {t′ ws : List ℕ} → Moved len ds from t′ ws → Upheld ds es from t′ ws
-    unfolding stepReturns
     upheld {t′} {ws} m =
         let rs = m .rows in
         let l = moved-left a first m in
@@ -113,19 +150,22 @@ module _ {len : ℕ} {ds : List ℕ} {es : List Entry} (a : Takes len ds es) whe
           valid = h .valid;
           words = rw (h .long, h .rows) (h .words);
           derived = rw (h .rows) (reaches-derives (m .reaches));
-          conserved = rw (h .rows) (keeps-cost k);
-          below = rw (h .rows) (keeps-below k (a .sizes));
-          bounded = stepsBounded (padded ds) from rs (length ws) (first .keeps .valid) (reaches-steps (m .reaches));
-          fixed = bound-fixed (padded ds) es from (first .keeps .weights);
-          stepLeft = rw (h .long, h .rows) (step-left a l h);
-          stepDone = rw (h .rows) (step-done a l h);
+          conserved = rw (h .rows) (k .weights);
+          below = rw (h .rows) (keeps-below k);
+          bounded = stepsBounded ds from rs (length ws) (first .keeps .valid) (reaches-steps (m .reaches));
+          fixed = bound-fixed ds es from (first .keeps .weights);
+          stepMade = rw (h .long, h .rows) (step-made l h);
+          stepFull = rw (h .long, h .rows) (step-full l h);
+          stepDone = rw (h .rows) (step-none l h);
           doneOnly = rw (h .rows) (done-only l h);
           run = rw (h .long) (run-ends l h);
           runBound = run-bound l h;
+          runDone = run-done l h;
+          runNumbers = run-numbers l h;
           planShort = plan-short h;
           planEarly = rw (h .rows) (plan-early h);
           planWritten = rw (h .rows) (plan-written h);
-          best = rw (h .rows) (best-table l h);
+          best = rw (h .rows) (best-rows l h);
         }
 
 pub demand-rows : (inst t : List ℕ) → GoodEncoding inst t → (calls : List Call)

@@ -7,6 +7,7 @@ use Rattle.wcsp.specs.Entry.{encoded, cost, matches}
 use Rattle.wcsp.specs.Rule.{conclusions, permitted}
 use Rattle.wcsp.specs.Resolve.{nextPair, resolve}
 use Rattle.wcsp.specs.Rebuild.{rebuilt}
+use Rattle.wcsp.specs.Widening.{trimmed}
 use Rattle.fields.specs.Padding.{padded}
 use Rattle.fields.specs.Front.{headIn, headed, sizeIn, goodSizes}
 use Rattle.fields.specs.Entries.{costOf, entriesFrom}
@@ -16,7 +17,7 @@ use Rattle.rows.specs.Form.{flatIn, rawsFromIn}
 use Rattle.rows.specs.Raw.{rawAt, weightIn, rowWeighs}
 use Rattle.table.specs.Raws.{rowOf}
 use Rattle.table.specs.Layout.{tableWordsIn, capacityIn}
-use Rattle.table.specs.Meaning.{tableRowsIn, tableSizes, domains}
+use Rattle.table.specs.Meaning.{tableRowsIn, ownRowsIn, tableSizes, domains}
 use Rattle.table.specs.Valid.{validTableIn, validSigns, signKinds, hasSigns}
 use Rattle.encoding.specs.Calls.{encodeCall}
 use Rattle.stepping.specs.Step.{allowed}
@@ -31,20 +32,17 @@ use Rattle.calls.specs.Driver.{driveAll}
 use Rattle.calls.specs.Witness.{Witnesses}
 
 pub witnesses : Witnesses
-unfolding driveAll afterCall afterCalls stepCall runCall planCall checkCall judged claimHolds isAssignment cost matches replay namedPair permittedPair runRows oneStep allowed tableAssignment rebuilt lowest validTableIn rowWeighs validSigns signKinds hasSigns tableRowsIn rawsFromIn rowOf weightIn rawAt tableSizes domains tableWordsIn flatIn encodeCall instanceFault scanWord scanBinding scanCost headIn headed sizeIn goodSizes costOf entriesFrom sizesOf entriesOf padded encoded addAll tautology same full capacityIn nextPair permitted conclusions resolve within present complement heavy emptyWeight weightOf has falsifies bucket
+unfolding driveAll afterCall afterCalls stepCall runCall planCall checkCall judged claimHolds isAssignment cost matches replay namedPair permittedPair runRows oneStep allowed tableAssignment rebuilt lowest validTableIn rowWeighs validSigns signKinds hasSigns tableRowsIn ownRowsIn trimmed rawsFromIn rowOf weightIn rawAt tableSizes domains tableWordsIn flatIn encodeCall instanceFault scanWord scanBinding scanCost headIn headed sizeIn goodSizes costOf entriesFrom sizesOf entriesOf padded encoded addAll tautology same full capacityIn nextPair permitted conclusions resolve within present complement heavy emptyWeight weightOf has falsifies bucket
 witnesses =
     record {
       encodes = refl;
       left = refl;
       ends = refl;
       derives = refl;
-      done = refl;
       paused = refl;
       full = refl;
-      planned = refl;
       early = refl;
       short = refl;
-      accepted = refl;
       refused = refl;
       driven = refl;
       drivenEnds = refl;

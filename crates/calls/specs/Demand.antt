@@ -2,80 +2,92 @@
 -- encoding and every list of calls.
 use Prim.Native.Nat.{ℕ, _≤_, _<_, min}
 use mathlib.Core.Path.{_≡_}
-use mathlib.Core.Bool.{true, cond}
-use mathlib.Core.List.{List, _++_}
+use mathlib.Core.Logic.{_⊎_, _↔_}
+use mathlib.Core.Bool.{true}
+use mathlib.Core.List.{List, [], _∷_, _++_}
 use mathlib.Core.Option.{none, some}
 use lib.ListN.{length, drop}
-use lib.Dec.{ltb}
 use Rattle.wcsp.specs.Clause.{InRange}
 use Rattle.wcsp.specs.Row.{Row, falsified, emptyWeight}
 use Rattle.wcsp.specs.Entry.{Entry, cost}
 use Rattle.wcsp.specs.Resolve.{Pair, nextPair, resolve}
+use Rattle.wcsp.specs.Rebuild.{rebuilt}
 use Rattle.wcsp.specs.Bound.{rowBound, stepBound}
-use Rattle.fields.specs.Limits.{maxVariables}
-use Rattle.fields.specs.Padding.{padded, paddedValues}
 use Rattle.input.specs.Instance.{sizesOf, entriesOf}
 use Rattle.table.specs.Layout.{tableWords, capacity}
-use Rattle.table.specs.Meaning.{tableRows}
+use Rattle.table.specs.Meaning.{ownRows}
 use Rattle.table.specs.Valid.{validTable}
 use Rattle.encoding.specs.Calls.{encodedRows, encodeCall}
-use Rattle.stepping.specs.Step.{refusing, stepping}
-use Rattle.resolution.specs.declared.StepAnswer.the-variants.{Done}
+use Rattle.stepping.specs.Step.{pairWord}
 use Rattle.resolution.specs.declared.Outcome.{Outcome}
-use Rattle.resolution.specs.Calls.{stepReturns, stepCall, runCall}
-use Rattle.assignment.specs.Calls.{tableAssignment, planCall}
+use Rattle.resolution.specs.Calls.{stepCall, runCall}
+use Rattle.resolution.specs.Numbers.{stepNumber, stepFields, outcomeNumber, outcomeField, runNumber}
+use Rattle.assignment.specs.Calls.{planCall}
 use Rattle.checker.specs.Theorems.{Best}
 use Rattle.calls.specs.Calls.{Call, started, afterCalls, Derives}
-
--- the sizes of an instance for twelve variables
-abbrev pub domainsOf : List ℕ → List ℕ
-domainsOf inst = padded (sizesOf inst)
 
 -- how many rows a slice takes over these sizes
 abbrev pub room : List ℕ → List ℕ → ℕ
 room ds t = capacity (length t) (length ds)
 
+-- what a step call on t gives: the paper's number and fields of its answer, and the table
+abbrev pub StepGives : List ℕ → ℕ → List ℕ → List ℕ → Type 0
+StepGives t number fields table =
+    (stepNumber (stepCall t .answer) ≡ number) × (stepFields (stepCall t .answer) ≡ fields) × (stepCall t .table ≡ table)
+
 -- how a further run on rows over these sizes ends: with no pair left; at its limit or the end of its slice with a pair left; or by 12, with steps
--- still to make and a pair left whose finished step needs more rows than the capacity. Never by another refusal.
+-- still to make and a pair left whose finished step needs more rows than the capacity. Never by another number.
 abbrev pub RunEnds : List ℕ → ℕ → ℕ → ℕ → List Row → Outcome → Type 0
 RunEnds ds cap most steps rs Outcome.Done = nextPair ds rs ≡ none
 RunEnds ds cap most steps rs Outcome.Paused = (steps ≡ most) × ((pr : Pair) × (nextPair ds rs ≡ some pr))
 RunEnds ds cap most steps rs (Outcome.Refused k) =
-    (k ≡ 12) × (steps < most) × ((pr : Pair) × (nextPair ds rs ≡ some pr) × (cap < length (resolve ds pr rs)))
+    (outcomeNumber (Outcome.Refused k) ≡ 12) × (steps < most) × ((pr : Pair) × (nextPair ds rs ≡ some pr) × (cap < length (resolve ds pr rs)))
 
 -- what holds of the table t′ for these sizes and entries, after steps with the words ws that started from these rows
 pub record Upheld (ds : List ℕ) (es : List Entry) (from : List Row) (t′ ws : List ℕ) : Type 0 where
   -- the table is a valid one of these sizes, and its rows are those of Steps: each step made was the next one
   pub valid : validTable t′ ≡ true
-  pub words : t′ ≡ tableWords (length t′) ds (tableRows t′)
-  pub derived : Derives (padded ds) from ws (tableRows t′)
+  pub words : t′ ≡ tableWords (length t′) ds (ownRows t′)
+  pub derived : Derives ds from ws (ownRows t′)
   -- the falsified weight equals the cost, for every assignment; so the empty row's weight is never above any cost
-  pub conserved : (p : List ℕ) → InRange ds p → falsified (paddedValues p) (tableRows t′) ≡ cost es p
-  pub below : (p : List ℕ) → InRange ds p → emptyWeight maxVariables (tableRows t′) ≤ cost es p
+  pub conserved : (p : List ℕ) → InRange ds p → falsified p (ownRows t′) ≡ cost es p
+  pub below : (p : List ℕ) → InRange ds p → emptyWeight (length ds) (ownRows t′) ≤ cost es p
   -- no more steps than a number of the rows that they started from, which is fixed by sizes and entries
-  pub bounded : length ws ≤ rowBound (padded ds) from
-  pub fixed : rowBound (padded ds) from ≡ stepBound (padded ds) es
-  -- a further step call: while a pair is left it is made, or only 12 stops it; it answers done exactly if none is left
-  pub stepLeft : (pr : Pair) → nextPair (padded ds) (tableRows t′) ≡ some pr
-      → let rs′ = resolve (padded ds) pr (tableRows t′) in
-      stepCall t′ ≡ stepReturns t′ (cond (ltb (room ds t′) (length rs′)) (refusing 12) (stepping pr rs′))
-  pub stepDone : nextPair (padded ds) (tableRows t′) ≡ none → stepCall t′ ≡ record { answer = Done; table = t′ }
-  pub doneOnly : stepCall t′ .answer ≡ Done → nextPair (padded ds) (tableRows t′) ≡ none
+  pub bounded : length ws ≤ rowBound ds from
+  pub fixed : rowBound ds from ≡ stepBound ds es
+  -- a further step call: while a pair is left the step on it is made, or only 12 stops it
+  pub stepMade : (pr : Pair) → nextPair ds (ownRows t′) ≡ some pr
+      → let rs′ = resolve ds pr (ownRows t′) in
+      length rs′ ≤ room ds t′
+      → StepGives t′ 0 (0 ∷ (pairWord pr ∷ [])) (tableWords (length t′) ds rs′)
+  pub stepFull : (pr : Pair) → nextPair ds (ownRows t′) ≡ some pr → room ds t′ < length (resolve ds pr (ownRows t′))
+      → StepGives t′ 12 (0 ∷ (0 ∷ [])) t′
+  -- with none left it is done, and it answers done only then
+  pub stepDone : nextPair ds (ownRows t′) ≡ none → StepGives t′ 0 (1 ∷ (0 ∷ [])) t′
+  pub doneOnly : stepFields (stepCall t′ .answer) ≡ 1 ∷ (0 ∷ []) → nextPair ds (ownRows t′) ≡ none
   -- a further run: only the end, its limit, its slice or 12 stops it; its bound is the empty row's weight in the table it leaves
   pub run : (limit : ℕ) (slice : List ℕ)
       → let r = runCall t′ limit slice in
-      RunEnds (padded ds) (room ds t′) (min limit (length slice)) (r .answer .steps) (tableRows (r .table)) (r .answer .outcome)
+      RunEnds ds (room ds t′) (min limit (length slice)) (r .answer .steps) (ownRows (r .table)) (r .answer .outcome)
   pub runBound : (limit : ℕ) (slice : List ℕ)
       → let r = runCall t′ limit slice in
-      r .answer .bound ≡ emptyWeight maxVariables (tableRows (r .table))
+      r .answer .bound ≡ emptyWeight (length ds) (ownRows (r .table))
+  -- its outcome field is 0, done, exactly if no pair is left in the table it leaves
+  pub runDone : (limit : ℕ) (slice : List ℕ)
+      → let r = runCall t′ limit slice in
+      (outcomeField (r .answer .outcome) ≡ 0) ↔ (nextPair ds (ownRows (r .table)) ≡ none)
+  -- never 9 and never 11
+  pub runNumbers : (limit : ℕ) (slice : List ℕ)
+      → let k = runNumber (runCall t′ limit slice .answer) in
+      (k ≡ 0) ⊎ (k ≡ 12)
   -- a further plan call: 10 for a short target, 13 while a pair is left, else the rebuilt assignment
   pub planShort : (target : List ℕ) → length target < length ds → planCall t′ target ≡ record { number = 10; target = target }
-  pub planEarly : (target : List ℕ) (pr : Pair) → length ds ≤ length target → nextPair (padded ds) (tableRows t′) ≡ some pr
+  pub planEarly : (target : List ℕ) (pr : Pair) → length ds ≤ length target → nextPair ds (ownRows t′) ≡ some pr
       → planCall t′ target ≡ record { number = 13; target = target }
-  pub planWritten : (target : List ℕ) → length ds ≤ length target → nextPair (padded ds) (tableRows t′) ≡ none
-      → planCall t′ target ≡ record { number = 0; target = tableAssignment t′ ++ drop (length ds) target }
+  pub planWritten : (target : List ℕ) → length ds ≤ length target → nextPair ds (ownRows t′) ≡ none
+      → planCall t′ target ≡ record { number = 0; target = rebuilt ds (ownRows t′) ++ drop (length ds) target }
   -- once no pair is left, that assignment has exactly the empty row's weight as cost, which is the least cost
-  pub best : nextPair (padded ds) (tableRows t′) ≡ none → Best ds es (tableAssignment t′) (emptyWeight maxVariables (tableRows t′))
+  pub best : nextPair ds (ownRows t′) ≡ none → Best ds es (rebuilt ds (ownRows t′)) (emptyWeight (length ds) (ownRows t′))
 
 -- the table t′ and the derivation ws that calls left of an encoding of inst in t: the slice is as long, and the steps started from the encoding
 abbrev pub UpheldFrom : List ℕ → List ℕ → List ℕ → List ℕ → Type 0

@@ -4,4 +4,5 @@ pub mod Demand
 pub mod Derivation
 pub mod Driver
 pub mod Slices
+pub mod WordCases
 pub mod Witness

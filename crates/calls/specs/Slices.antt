@@ -1,4 +1,4 @@
--- How the driver's code has a state: the table in its slice, and the derivation in front of the slice for step words.
+-- Inner: how the driver's code has a state: the table in its slice, and the derivation in front of the slice for step words.
 use Prim.Native.Nat.{ℕ, _≤_}
 use mathlib.Core.Path.{_≡_}
 use mathlib.Core.Bool.{cond}

@@ -1,5 +1,5 @@
--- P1 of document 01 on words, one variable of two values with costs 3 and 1: it meets each hypothesis of demand 3, of an accepted derivation,
--- of the driver's and of an accepted claim. One field more, whose table is too short for its first step, shows the 12.
+-- P1 of document 01 on words meets each hypothesis of demand 3, of an accepted derivation and of the driver's. What the calls refuse, and how
+-- a run ends that is not done: on P1 too, and on a field whose table is too short for its first step. What P1 comes to stands in WordCases.
 use Prim.Native.Nat.{ℕ, _+_, _*_}
 use mathlib.Core.Path.{_≡_}
 use mathlib.Core.List.{List, [], _∷_}
@@ -8,20 +8,18 @@ use lib.ListN.{replicate}
 use Rattle.wcsp.specs.Resolve.{nextPair}
 use Rattle.words.specs.Layout.{headWord, sizeWord, bindingWord, costWord, stepWord}
 use Rattle.fields.specs.Answers.{good}
+use Rattle.input.specs.Instance.{sizesOf}
 use Rattle.rows.specs.Raw.{rowWidth}
 use Rattle.table.specs.Layout.{rowsAt}
-use Rattle.table.specs.Meaning.{tableRows}
+use Rattle.table.specs.Meaning.{ownRows}
 use Rattle.encoding.specs.Calls.{encodeCall}
 use Rattle.resolution.specs.declared.Outcome.{Outcome}
 use Rattle.resolution.specs.Calls.{runCall}
 use Rattle.assignment.specs.Calls.{planCall}
 use Rattle.checker.specs.Calls.{checkCall}
 use Rattle.calls.specs.Calls.{Call, runAsked, planAsked, started, afterCalls}
-use Rattle.calls.specs.Demand.{domainsOf}
 use Rattle.calls.specs.Driver.{DriveReturned, driveAll}
-
-abbrev pub p1 : List ℕ
-p1 = headWord 1 ∷ sizeWord 2 ∷ bindingWord 0 0 ∷ costWord 3 ∷ bindingWord 0 1 ∷ costWord 1 ∷ []
+use Rattle.calls.specs.WordCases.{p1}
 
 -- a slice that takes two rows of one variable, or of two, whatever lay in it
 abbrev pub lent : List ℕ
@@ -45,22 +43,19 @@ crowded = headWord 2 ∷ sizeWord 2 ∷ sizeWord 2 ∷ bindingWord 0 0 ∷ costW
 pub record Witnesses : Type 0 where
   -- demand 3: the encoding is good; a pair is left then, and none after the calls
   pub encodes : encodeCall p1 lent .answer ≡ good 2
-  pub left : nextPair (domainsOf p1) (tableRows (encodeCall p1 lent .table)) ≡ some (record { variable = 0; first = 0; second = 1 })
-  pub ends : nextPair (domainsOf p1) (tableRows (afterCalls (started p1 lent) p1Calls .table)) ≡ none
+  pub left : nextPair (sizesOf p1) (ownRows (encodeCall p1 lent .table)) ≡ some (record { variable = 0; first = 0; second = 1 })
+  pub ends : nextPair (sizesOf p1) (ownRows (afterCalls (started p1 lent) p1Calls .table)) ≡ none
   pub derives : afterCalls (started p1 lent) p1Calls .derivation ≡ stepWord 0 0 1 ∷ []
-  -- a run by each of its endings: done, paused, 12
-  pub done : runCall (encodeCall p1 lent .table) 5 (5 ∷ 6 ∷ []) .answer ≡ record { outcome = Outcome.Done; steps = 1; bound = 1 }
+  -- a run paused, and one stopped by 12
   pub paused : runCall (encodeCall p1 lent .table) 5 [] .answer ≡ record { outcome = Outcome.Paused; steps = 0; bound = 0 }
   pub full : runCall (encodeCall crowded lent .table) 5 (5 ∷ 6 ∷ []) .answer ≡ record { outcome = Outcome.Refused 12; steps = 0; bound = 0 }
-  -- a plan call by each of its numbers: written, 13, 10
-  pub planned : planCall (afterCalls (started p1 lent) p1Calls .table) (9 ∷ 8 ∷ []) ≡ record { number = 0; target = 1 ∷ 8 ∷ [] }
+  -- a plan call refused: 13, 10
   pub early : planCall (encodeCall p1 lent .table) (9 ∷ 8 ∷ []) ≡ record { number = 13; target = 9 ∷ 8 ∷ [] }
   pub short : planCall (encodeCall p1 lent .table) [] ≡ record { number = 10; target = [] }
-  -- the claim of the plan and its cost is accepted, and no other cost
-  pub accepted : checkCall p1 (stepWord 0 0 1 ∷ []) (1 ∷ []) 1 lent .answer ≡ record { number = 0; steps = 1 }
+  -- a claim refused: the cost is the plan's, but not the least
   pub refused : checkCall p1 (stepWord 0 0 1 ∷ []) (0 ∷ []) 3 lent .answer ≡ record { number = 7; steps = 1 }
   -- the driver makes the step by its first word, leaves no pair, and writes the step word and the plan
   pub driven : p1Driven .answer ≡ record { number = 0; steps = 1 }
-  pub drivenEnds : nextPair (domainsOf p1) (tableRows (p1Driven .table)) ≡ none
+  pub drivenEnds : nextPair (sizesOf p1) (ownRows (p1Driven .table)) ≡ none
   pub drivenWords : p1Driven .out ≡ stepWord 0 0 1 ∷ 6 ∷ []
   pub drivenPlan : p1Driven .target ≡ 1 ∷ 8 ∷ []

@@ -9,8 +9,8 @@ use Rattle.wcsp.specs.Resolve.{nextPair, resolve}
 use Rattle.wcsp.specs.Rebuild.{rebuilt}
 use Rattle.wcsp.specs.Bound.{rowBound}
 use Rattle.distance.specs.Metres.{metres}
-use Rattle.cases.specs.Cases.{AllCases, stated, outcome, cases, roots}
+use Rattle.cases.specs.Cases.{AllCases, stated, computed, cases}
 
 pub allCases : AllCases
-unfolding cases roots stated outcome encoded addAll nextPair resolve conclusions permitted rebuilt emptyWeight rowBound falsified bucket falsifies tautology same has full complement within present lowest metres
-allCases = record { fields = refl; distances = refl }
+unfolding cases stated computed encoded addAll nextPair resolve conclusions permitted rebuilt emptyWeight rowBound falsified bucket falsifies tautology same has full complement within present lowest metres
+allCases = refl

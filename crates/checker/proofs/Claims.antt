@@ -11,8 +11,6 @@ use borrow.Author.Tests.{eqb-true, eqb-false, eq-eqb}
 use Rattle.wcsp.specs.Row.{Row, emptyWeight}
 use Rattle.wcsp.specs.Entry.{cost}
 use Rattle.wcsp.proofs.Lists.{and-left, and-right}
-use Rattle.fields.specs.Limits.{maxVariables}
-use Rattle.fields.specs.Padding.{padded}
 use Rattle.fields.specs.Assignment.{isAssignment}
 use Rattle.fields.proofs.Assigning.{in-range-of}
 use Rattle.input.specs.Instance.{instanceFault, sizesOf, entriesOf}
@@ -23,13 +21,13 @@ use Rattle.checker.specs.Calls.{claimHolds, judged, checkCall}
 use Rattle.checker.specs.Theorems.{Best, AcceptedIsLeast, LeftConserves}
 use Rattle.checker.proofs.Instances.{accepted-sizes, accepted-entries}
 use Rattle.checker.proofs.Encoded.{GoodEncoding, coded}
-use Rattle.checker.proofs.Kept.{Takes, Keeps, encoded-keeps, keeps-cost, keeps-below}
+use Rattle.checker.proofs.Kept.{Takes, Keeps, encoded-keeps, keeps-below}
 use Rattle.checker.proofs.Replaying.{Left, left-held, Ended, replay-ended}
 
 -- the replay that the check makes
 abbrev pub replayed : List ℕ → List ℕ → List ℕ → Replayed
 replayed inst t derivation =
-    replay (padded (sizesOf inst)) (capacity (length t) (length (sizesOf inst))) (encodedRows inst) 0 derivation
+    replay (sizesOf inst) (capacity (length t) (length (sizesOf inst))) (encodedRows inst) 0 derivation
 
 -- once the encoding is good, the replay is judged
 pub check-judged : (inst derivation plan : List ℕ) (claimed : ℕ) (t : List ℕ) → encodeCall inst t .answer .number ≡ 0
@@ -40,19 +38,19 @@ check-judged inst derivation plan claimed t e = rw (eq-eqb (encodeCall inst t .a
 -- the parts of a claim that holds
 record Claim (inst plan : List ℕ) (claimed : ℕ) (rs : List Row) : Type 0 where
   assigned : isAssignment (sizesOf inst) plan ≡ true
-  empty : claimed ≡ emptyWeight maxVariables rs
+  empty : claimed ≡ emptyWeight (length (sizesOf inst)) rs
   costs : claimed ≡ cost (entriesOf inst) plan
 
-claim : (inst plan : List ℕ) (claimed : ℕ) (rs : List Row) → claimHolds inst plan claimed rs ≡ true → Claim inst plan claimed rs
+claim : (inst plan : List ℕ) (claimed : ℕ) (rs : List Row) → claimHolds inst plan claimed (emptyWeight (length (sizesOf inst)) rs) ≡ true → Claim inst plan claimed rs
 unfolding claimHolds
 claim inst plan claimed rs e =
     let a = isAssignment (sizesOf inst) plan in
-    let b = eqb claimed (emptyWeight maxVariables rs) in
+    let b = eqb claimed (emptyWeight (length (sizesOf inst)) rs) in
     let c = eqb claimed (cost (entriesOf inst) plan) in
     let two = and-left (a && b) c e in
     record {
       assigned = and-left a b two;
-      empty = eqb-true claimed (emptyWeight maxVariables rs) (and-right a b two);
+      empty = eqb-true claimed (emptyWeight (length (sizesOf inst)) rs) (and-right a b two);
       costs = eqb-true claimed (cost (entriesOf inst) plan) (and-right (a && b) c e);
     }
 
@@ -76,7 +74,7 @@ claim-accepted inst plan claimed a k h =
     record {
       inRange = in-range-of (sizesOf inst) plan (h .assigned);
       attained = sym (h .costs);
-      least = rw (h .empty) (keeps-below k (accepted-sizes inst a));
+      least = rw (h .empty) (keeps-below k);
     }
 
 pub acceptedIsLeast : AcceptedIsLeast
@@ -86,7 +84,7 @@ acceptedIsLeast inst derivation plan claimed t e = coding (eqb (encodeCall inst 
     done : Replayed
     done = replayed inst t derivation
 
-    judging : GoodEncoding inst t → (a b : Bool) → claimHolds inst plan claimed (done .rows) ≡ b → eqb (done .number) 0 ≡ a
+    judging : GoodEncoding inst t → (a b : Bool) → claimHolds inst plan claimed (emptyWeight (length (sizesOf inst)) (done .rows)) ≡ b → eqb (done .number) 0 ≡ a
         → cond a (cond b 0 7) (done .number) ≡ 0 → Best (sizesOf inst) (entriesOf inst) plan claimed
     judging c true true f h n =
         claim-accepted inst plan claimed (c .accepted) (replayed-ended inst t c derivation .left .keeps) (claim inst plan claimed (done .rows) f)
@@ -99,7 +97,7 @@ acceptedIsLeast inst derivation plan claimed t e = coding (eqb (encodeCall inst 
         ≡ 0 → Best (sizesOf inst) (entriesOf inst) plan claimed
     coding true h n =
         judging (coded inst t (eqb-true (encodeCall inst t .answer .number) 0 h)) (eqb (done .number) 0)
-        (claimHolds inst plan claimed (done .rows)) refl refl n
+        (claimHolds inst plan claimed (emptyWeight (length (sizesOf inst)) (done .rows))) refl refl n
     coding false h n = absurd (eqb-false (encodeCall inst t .answer .number) 0 h n)
 
 pub leftConserves : LeftConserves
@@ -109,4 +107,4 @@ leftConserves inst derivation plan claimed t p e r =
     let l = replayed-ended inst t c derivation .left in
     let left : checkCall inst derivation plan claimed t .table ≡ tableWords (length t) (sizesOf inst) (replayed inst t derivation .rows)
     = ap (λ k. k .table) (check-judged inst derivation plan claimed t e) in
-    rw (left-held (coded-takes inst t c) l left .rows) (keeps-cost (l .keeps) p r)
+    rw (left-held (coded-takes inst t c) l left .rows) (l .keeps .weights p r)

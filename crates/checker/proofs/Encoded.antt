@@ -10,7 +10,7 @@ use borrow.Author.Tests.{eqb-true, eqb-false, ltb-false, eq-eqb, le-ltb}
 use Rattle.fields.specs.Answers.{refused, good}
 use Rattle.input.specs.Instance.{instanceFault, sizesOf}
 use Rattle.table.specs.Layout.{capacity, tableWords}
-use Rattle.encoding.specs.Calls.{Returned, encodedRows, encodeCall}
+use Rattle.encoding.specs.Calls.{EncodeReturned, encodedRows, encodeCall}
 
 -- what a good encoding found: an accepted instance and room for head, sizes, count and rows
 pub record GoodEncoding (inst t : List ℕ) : Type 0 where
@@ -19,7 +19,7 @@ pub record GoodEncoding (inst t : List ℕ) : Type 0 where
   pub fits : length (encodedRows inst) ≤ capacity (length t) (length (sizesOf inst))
 
 -- the tests of the call, by their results
-unfoldable pub encodes : (inst t : List ℕ) → Bool → Bool → Bool → Returned
+unfoldable pub encodes : (inst t : List ℕ) → Bool → Bool → Bool → EncodeReturned
 encodes inst t a b c =
     cond a
     (cond b

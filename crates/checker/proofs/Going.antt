@@ -8,25 +8,26 @@ use mathlib.Core.Option.{none, some}
 use lib.ListN.{length, getD, drop, drop-of-length-le}
 use lib.Seq.{drop-cons}
 use Rattle.wcsp.specs.Row.{Row}
-use Rattle.wcsp.specs.Resolve.{Pair, resolve, Permitted}
+use Rattle.wcsp.specs.Resolve.{Pair, resolve, MayResolve}
 use Rattle.clause.specs.declared.Clause.{Clause}
 use Rattle.table.specs.declared.Shape.{Shape}
 use Rattle.table.specs.Layout.{tableWords}
-use Rattle.table.specs.Meaning.{variablesOf, rowCount, tableSizes, tableRows, domains}
+use Rattle.table.specs.Meaning.{variablesOf, rowCount, tableSizes, tableRows, domains, capacityOf}
 use Rattle.table.specs.Valid.{validTable}
-use Rattle.table.specs.Check.{fullClause, shapeOf, capacityOf}
-use Rattle.table.proofs.Canonical.{validIsCanonical}
+use Rattle.table.specs.Check.{fullClause, shapeOf}
+use Rattle.table.proofs.Canonical.{twelveIsCanonical}
 use Rattle.table.proofs.Finishing.{valid-count}
 use Rattle.stepping.specs.declared.Advanced.{Advanced}
 use Rattle.stepping.specs.declared.Advanced.the-variants.{Made, Refused}
-use Rattle.stepping.specs.Step.{refusing, stepping, allowed}
-use Rattle.stepping.specs.Advance.{withRows, advanceCall}
+use Rattle.stepping.specs.Step.{refusing, stepsTo, allowed, withRows}
+use Rattle.stepping.specs.Advance.{AdvanceReturned, advanceCall}
 use Rattle.stepping.proofs.Answers.{advance-made, advance-refused}
 use Rattle.stepping.proofs.Following.{following}
-use Rattle.checker.specs.declared.Outcome.{Outcome}
+use Rattle.checker.specs.declared.ReplayEnd.{ReplayEnd}
 use Rattle.checker.specs.declared.Named.{Named}
 use Rattle.checker.specs.declared.Named.the-variants.{Pair as Of, Nothing}
-use Rattle.checker.specs.Replay.{namedPair, replayOn, replayWord, Replayed, replayNext, replay, replayCall}
+use Rattle.checker.specs.Replay.{namedPair, replayOn, replayWord, Replayed, replayNext, replay}
+use Rattle.checker.specs.Twelve.{replayCall}
 use Rattle.checker.proofs.Replaying.{named-permitted}
 use Rattle.checker.proofs.Naming.{Names, nothing-named, pair-named}
 
@@ -48,7 +49,7 @@ module _ (ds : List ℕ) (cap : ℕ) (rs : List Row) (k : ℕ) (ws : List ℕ) w
       unfolding replay replayWord replayOn replayNext
       replay-stops number a = rw (drop-cons ws k 0 h, e, a)
 
-      replay-on : (rs′ : List Row) → allowed cap pr (resolve ds pr rs) ≡ stepping pr rs′
+      replay-on : (rs′ : List Row) → allowed cap pr (resolve ds pr rs) ≡ stepsTo pr rs′
           → replay ds cap rs k (drop k ws) ≡ replay ds cap rs′ (suc k) (drop (suc k) ws)
       unfolding replay replayWord replayOn replayNext
       replay-on rs′ a = rw (drop-cons ws k 0 h, e, a)
@@ -69,7 +70,7 @@ going-start t ws shape v e =
     record { valid = v; long = refl; sizes = refl; variables = refl; domained = refl; counted = ap (λ s. s .count) e; goes = refl }
 
 -- what a replay must give back
-abbrev pub Replays : List ℕ → List ℕ → Outcome → List ℕ → Type 0
+abbrev pub Replays : List ℕ → List ℕ → ReplayEnd → List ℕ → Type 0
 Replays t ws r t′ = record { answer = r; table = t′ } ≡ replayCall t ws
 
 module _ {t₀ ws t : List ℕ} {count k : ℕ} (g : Going t₀ ws t count k) where
@@ -82,7 +83,7 @@ module _ {t₀ ws t : List ℕ} {count k : ℕ} (g : Going t₀ ws t count k) wh
   gives number t′ w e =
       let c : count ≡ length (tableRows t) = g .counted ∙ sym (valid-count t (g .valid)) in
       let l : t′ ≡ withRows t₀ (tableRows t)
-      = e ∙ validIsCanonical t (g .valid) .words ∙ ap₂ (λ n s. tableWords n s (tableRows t)) (g .long) (g .sizes) in
+      = e ∙ twelveIsCanonical t (g .valid) .words ∙ ap₂ (λ n s. tableWords n s (tableRows t)) (g .long) (g .sizes) in
       rw w (λ i. record { answer = record { number = number; steps = k; count = c i }; table = l i })
 
   -- the shape that a turn's calls get
@@ -109,27 +110,27 @@ module _ {t₀ ws t : List ℕ} {count k : ℕ} (g : Going t₀ ws t count k) wh
       unfolding pr
       is-named = pair-named _ v i j (sym q ∙ answer)
 
-      pub may-step : Permitted (domains t) (tableRows t) (record { variable = v; first = i; second = j })
+      pub may-step : MayResolve (domains t) (tableRows t) (record { variable = v; first = i; second = j })
       unfolding pr
       may-step = named-permitted (domains t) (tableRows t) (getD ws k 0) pr is-named
 
-      module _ {advanced : Advanced} {t′ : List ℕ} (e : advanced ≡ advanceCall t (record { variable = v; first = i; second = j }) .answer)
-          (f : t′ ≡ advanceCall t (record { variable = v; first = i; second = j }) .table) where
+      module _ {advanced : Advanced} {t′ : List ℕ}
+          (e : _≡_ {A = AdvanceReturned} (record { answer = advanced; table = t′ }) (advanceCall t (record { variable = v; first = i; second = j }))) where
         pub unmoved : {number : ℕ} → advanced ≡ Refused number → t′ ≡ t
         unfolding pr
-        unmoved {number} a = advance-refused t pr advanced t′ e f number a .1
+        unmoved {number} a = advance-refused t pr advanced t′ e number a .1
 
         pub gives-refused : {number : ℕ} → advanced ≡ Refused number → Replays t₀ ws (record { number = number; steps = k; count = count }) t′
         unfolding pr
         gives-refused {number} a =
-            let r = advance-refused t pr advanced t′ e f number a in
+            let r = advance-refused t pr advanced t′ e number a in
             gives number t′ (g .goes ∙ replay-stops (domains t) (capacityOf t) (tableRows t) k ws h pr is-named number (r .0)) (r .1)
 
-        pub going-on : {now old : ℕ} → advanced ≡ Made now old → Going t₀ ws t′ now (k + 1)
+        pub going-on : {now : ℕ} → advanced ≡ Made now → Going t₀ ws t′ now (k + 1)
         unfolding pr
-        going-on {now} {old} a =
-            let m = advance-made t pr advanced t′ e f now old a in
-            let s = following t (g .valid) pr may-step now old t′ m in
+        going-on {now} a =
+            let m = advance-made t pr advanced t′ e now a in
+            let s = following t (g .valid) pr may-step now t′ m in
             let d = s .domained in
             let r = s .rows in
             let c = s .capacious in

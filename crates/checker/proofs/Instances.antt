@@ -5,25 +5,12 @@ use mathlib.Core.Path.{_≡_}
 use mathlib.Core.List.{List}
 use mathlib.Core.Option.{some}
 use lib.ListN.{length}
-use Rattle.wcsp.specs.Clause.{AllPositive}
-use Rattle.wcsp.specs.Entry.{Entry, WellFormed}
 use Rattle.words.specs.Layout.{headWord}
 use Rattle.fields.specs.Front.{headIn}
-use Rattle.fields.specs.Padding.{padded}
 use Rattle.fields.specs.Entries.{FieldSizes, Entries}
 use Rattle.fields.proofs.Fronts.{head-is}
-use Rattle.fields.proofs.Padding.{padded-length, positive-padded, well-formed-padded}
 use Rattle.input.specs.Instance.{instanceFault, sizesOf, entriesOf}
 use Rattle.input.proofs.Acceptance.{accepted-instance}
-
-pub twelve : {ds : List ℕ} → FieldSizes ds → length (padded ds) ≡ 12
-twelve {ds} s = padded-length ds (s .most)
-
-pub positive : {ds : List ℕ} → FieldSizes ds → AllPositive (padded ds)
-positive s = positive-padded (s .positive)
-
-pub formed : {ds : List ℕ} {es : List Entry} → Entries ds 0 es → WellFormed (padded ds) es
-formed n = well-formed-padded (n .wellFormed)
 
 module _ (inst : List ℕ) (e : instanceFault inst ≡ 0) where
   pub accepted-sizes : FieldSizes (sizesOf inst)

@@ -5,10 +5,8 @@ use mathlib.Core.Path.{_≡_, refl, sym, ap, _∙_}
 use mathlib.Core.Bool.{Bool, true, false, cond, and-false}
 use mathlib.Core.List.{List}
 use borrow.Author.Tests.{eq-eqb, ne-eqb}
-use Rattle.wcsp.specs.Row.{Row, emptyWeight}
 use Rattle.wcsp.specs.Entry.{cost}
 use Rattle.fields.specs.declared.Answer.{Answer}
-use Rattle.fields.specs.Limits.{maxVariables}
 use Rattle.fields.specs.Answers.{refused, good}
 use Rattle.fields.specs.Assignment.{isAssignment}
 use Rattle.cost.specs.Calls.{costCall}
@@ -36,10 +34,10 @@ module _ (inst plan : List ℕ) (accepted : instanceFault inst ≡ 0) (priced : 
       go true p q = (refl, ap (λ a. a .value) q)
       go false p q = absurd (let z = ap (λ a. a .number) q in omega arith)
 
-  module _ (claimed : ℕ) (rs : List Row) where
+  module _ (claimed weight : ℕ) where
     -- what the judgement must be
     abbrev Judges : ℕ → Type 0
-    Judges number = number ≡ cond (claimHolds inst plan claimed rs) 0 7
+    Judges number = number ≡ cond (claimHolds inst plan claimed weight) 0 7
 
     pub claim-unplanned : (priced .number ≡ 0 → ⊥) → Judges 7
     unfolding claimHolds
@@ -51,14 +49,14 @@ module _ (inst plan : List ℕ) (accepted : instanceFault inst ≡ 0) (priced : 
       claim-other-cost h =
           rw (ne-eqb claimed (cost (entriesOf inst) plan) (λ q. h (q ∙ sym (a-plan n .1))), and-false)
 
-      pub claim-other-weight : (empty : ℕ) → empty ≡ emptyWeight maxVariables rs → (claimed ≡ empty → ⊥)
+      pub claim-other-weight : (empty : ℕ) → empty ≡ weight → (claimed ≡ empty → ⊥)
           → Judges 7
       unfolding claimHolds
       claim-other-weight empty f h =
-          rw (ne-eqb claimed (emptyWeight maxVariables rs) (λ q. h (q ∙ sym f)), and-false)
+          rw (ne-eqb claimed weight (λ q. h (q ∙ sym f)), and-false)
 
-      pub claim-true : (empty : ℕ) → empty ≡ emptyWeight maxVariables rs → claimed ≡ priced .value → claimed ≡ empty
+      pub claim-true : (empty : ℕ) → empty ≡ weight → claimed ≡ priced .value → claimed ≡ empty
           → Judges 0
       unfolding claimHolds
       claim-true empty f g h =
-          rw (a-plan n .0, eq-eqb claimed (emptyWeight maxVariables rs) (h ∙ f), eq-eqb claimed (cost (entriesOf inst) plan) (g ∙ a-plan n .1))
+          rw (a-plan n .0, eq-eqb claimed weight (h ∙ f), eq-eqb claimed (cost (entriesOf inst) plan) (g ∙ a-plan n .1))

@@ -9,7 +9,7 @@ use lib.ListN.{length, getD}
 use Rattle.wcsp.specs.Clause.{InRange}
 use Rattle.wcsp.specs.Row.{Row, falsified, emptyWeight, ValidRows}
 use Rattle.wcsp.specs.Entry.{Entry, cost, encoded}
-use Rattle.wcsp.specs.Resolve.{Pair, noRow, resolve, Permitted}
+use Rattle.wcsp.specs.Resolve.{Pair, noRow, resolve, MayResolve}
 use Rattle.wcsp.specs.Theorems.{Witnessed}
 use Rattle.wcsp.proofs.Validity.{stepValid}
 use Rattle.wcsp.proofs.Conservation.{conservation}
@@ -17,15 +17,12 @@ use Rattle.wcsp.proofs.Encoding.{encodingValid, encodingExact}
 use Rattle.wcsp.proofs.EmptyRow.{emptyBelow}
 use Rattle.wcsp.proofs.Weights.{weightsWitnessed}
 use Rattle.wcsp.proofs.TooHeavy.{light}
-use Rattle.fields.specs.Limits.{maxVariables}
-use Rattle.fields.specs.Padding.{padded, paddedValues}
 use Rattle.fields.specs.Entries.{FieldSizes, Entries}
 use Rattle.fields.proofs.Costs.{entries-costs}
-use Rattle.fields.proofs.Padding.{in-range-padded, cost-padded}
 use Rattle.rows.specs.Raw.{maxWeight}
 use Rattle.table.specs.Layout.{capacity, tooHeavy}
-use Rattle.table.specs.Check.{Holdable}
-use Rattle.checker.proofs.Instances.{head-given, twelve, positive, formed}
+use Rattle.table.specs.Theorems.{Holdable}
+use Rattle.checker.proofs.Instances.{head-given}
 
 -- sizes and entries of a field, and a slice with room for head, sizes and count
 pub record Takes (len : ℕ) (ds : List ℕ) (es : List Entry) : Type 0 where
@@ -34,41 +31,34 @@ pub record Takes (len : ℕ) (ds : List ℕ) (es : List Entry) : Type 0 where
   pub room : length ds + 2 ≤ len
 
 pub record Keeps (ds : List ℕ) (es : List Entry) (rs : List Row) : Type 0 where
-  pub valid : ValidRows (padded ds) rs
-  pub weights : (q : List ℕ) → InRange (padded ds) q → falsified q rs ≡ cost es q
+  pub valid : ValidRows ds rs
+  pub weights : (p : List ℕ) → InRange ds p → falsified p rs ≡ cost es p
 
 module _ {ds : List ℕ} {es : List Entry} where
-  pub encoded-keeps : FieldSizes ds → Entries ds 0 es → Keeps ds es (encoded (padded ds) es)
+  pub encoded-keeps : FieldSizes ds → Entries ds 0 es → Keeps ds es (encoded ds es)
   encoded-keeps s n =
       record {
-        valid = encodingValid (padded ds) es (positive s) (formed n);
-        weights = λ q r. encodingExact (padded ds) es q (formed n) r;
+        valid = encodingValid ds es (s .positive) (n .wellFormed);
+        weights = λ p r. encodingExact ds es p (n .wellFormed) r;
       }
 
   module _ {rs : List Row} (k : Keeps ds es rs) where
-    pub step-keeps : (pr : Pair) → Permitted (padded ds) rs pr → Keeps ds es (resolve (padded ds) pr rs)
+    pub step-keeps : (pr : Pair) → MayResolve ds rs pr → Keeps ds es (resolve ds pr rs)
     step-keeps pr m =
         record {
-          valid = stepValid (padded ds) rs pr (k .valid) m;
-          weights = λ q r. conservation (padded ds) rs pr q (k .valid) m r ∙ k .weights q r;
+          valid = stepValid ds rs pr (k .valid) m;
+          weights = λ q r. conservation ds rs pr q (k .valid) m r ∙ k .weights q r;
         }
 
-    -- for the assignments of the field's own variables
-    pub keeps-cost : (p : List ℕ) → InRange ds p → falsified (paddedValues p) rs ≡ cost es p
-    keeps-cost p r = k .weights (paddedValues p) (in-range-padded r) ∙ cost-padded es p
-
-    pub keeps-below : FieldSizes ds → (p : List ℕ) → InRange ds p → emptyWeight maxVariables rs ≤ cost es p
-    keeps-below s p r =
-        let b : emptyWeight 12 rs ≤ falsified (paddedValues p) rs
-        = rw (twelve s) at (emptyBelow (padded ds) rs (paddedValues p) (in-range-padded r)) in
-        omega (arith, keeps-cost p r)
+    pub keeps-below : (p : List ℕ) → InRange ds p → emptyWeight (length ds) rs ≤ cost es p
+    keeps-below p r = omega (arith, emptyBelow ds rs p r, k .weights p r)
 
     pub keeps-light : Entries ds 0 es → tooHeavy rs ≡ false
     keeps-light n = light maxWeight rs (λ i h. small i h)
       where
         small : (i : ℕ) → i < length rs → getD rs i noRow .weight ≤ maxWeight
         small i h =
-            let w : Witnessed (padded ds) rs (getD rs i noRow .weight) = weightsWitnessed (padded ds) rs i (k .valid) h in
+            let w : Witnessed ds rs (getD rs i noRow .weight) = weightsWitnessed ds rs i (k .valid) h in
             omega (arith, w .atLeast, k .weights (w .assignment) (w .inRange), entries-costs n (w .assignment))
 
     pub keeps-holdable : {len : ℕ} → Takes len ds es → length rs ≤ capacity len (length ds) → Holdable len ds rs

@@ -6,6 +6,7 @@ pub mod Replaying
 pub mod Claims
 pub mod Numbers
 pub mod Naming
+pub mod Own
 pub mod Going
 pub mod Judging
 pub mod Checking

@@ -12,7 +12,7 @@ use types.Run.{OneOf}
 use Rattle.wcsp.specs.Clause.{ValidClause}
 use Rattle.wcsp.specs.Row.{Row}
 use Rattle.wcsp.specs.Rule.{permitted}
-use Rattle.wcsp.specs.Resolve.{Pair, noRow, Permitted}
+use Rattle.wcsp.specs.Resolve.{Pair, noRow, MayResolve}
 use Rattle.words.specs.declared.Word.{Word}
 use Rattle.words.specs.declared.Word.the-variants.{Step}
 use Rattle.words.specs.Layout.{kindOf}
@@ -20,7 +20,7 @@ use Rattle.words.specs.Meaning.{wordOf}
 use Rattle.words.proofs.Inverse.{step-kind}
 use Rattle.words.proofs.Others.{placeOf, butStep, no-step}
 use Rattle.clause.specs.declared.Clause.{Clause}
-use Rattle.clause.specs.Packed.{signsOf, Packed, FullSigns}
+use Rattle.clause.specs.Packed.{signsOf, FitsBlocks, FullSigns}
 use Rattle.rows.specs.Raw.{rowWidth, rawAt, clauseIn}
 use Rattle.table.specs.declared.Shape.{Shape}
 use Rattle.table.specs.Meaning.{tableRows, domains}
@@ -30,7 +30,8 @@ use Rattle.table.proofs.Reading.{Ready, ready-shape}
 use Rattle.stepping.proofs.Surveying.{premise-signs, premise-valid}
 use Rattle.checker.specs.declared.Named.{Named}
 use Rattle.checker.specs.declared.Named.the-variants.{Pair as Of, Nothing}
-use Rattle.checker.specs.Replay.{permittedPair, namedPair, namedOf}
+use Rattle.checker.specs.Replay.{permittedPair, namedPair}
+use Rattle.checker.specs.Twelve.{namedOf}
 use Rattle.checker.proofs.Replaying.{permitted-passes}
 
 -- ---- the tests
@@ -62,7 +63,7 @@ module _ (ds : List ℕ) (rs : List Row) (w : ℕ) where
     unfolding permittedPair
     forbidden a b c h = of-step ∙ rw (lt-ltb v (length ds) a, lt-ltb i j b, lt-ltb j (length rs) c, h)
 
-    named : Permitted ds rs (record { variable = v; first = i; second = j })
+    named : MayResolve ds rs (record { variable = v; first = i; second = j })
         → namedPair ds rs w ≡ some (record { variable = v; first = i; second = j })
     named m = of-step ∙ permitted-passes ds rs (record { variable = v; first = i; second = j }) m
 
@@ -105,7 +106,7 @@ module _ (t : List ℕ) (valid : validTable t ≡ true) {shape : Shape} (e : sha
   pub few-variables : shape .variables ≤ 12
   few-variables = ready .few
 
-  pub fulls-packed : Packed (shape .fulls)
+  pub fulls-packed : FitsBlocks (shape .fulls)
   fulls-packed = rw e (ready-shape t valid (shapeOf t) refl .packed)
 
   full-signs : FullSigns (shape .fulls) (domains t)

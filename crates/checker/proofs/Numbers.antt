@@ -7,6 +7,8 @@ use mathlib.Core.List.{List}
 use lib.ListN.{length}
 use lib.Dec.{eqb}
 use borrow.Author.Tests.{eqb-true}
+use Rattle.wcsp.specs.Row.{emptyWeight}
+use Rattle.input.specs.Instance.{sizesOf}
 use Rattle.input.proofs.Faults.{instance-small}
 use Rattle.encoding.specs.Calls.{encodeCall}
 use Rattle.checker.specs.Replay.{Replayed}
@@ -46,5 +48,5 @@ neverTooHeavy inst derivation plan claimed t e = coding (eqb (encodeCall inst t 
         ≡ 11 → ⊥
     coding true h n =
         let c = coded inst t (eqb-true (encodeCall inst t .answer .number) 0 h) in
-        judging (replayed-ended inst t c derivation .never) (eqb (done .number) 0) (claimHolds inst plan claimed (done .rows)) n
+        judging (replayed-ended inst t c derivation .never) (eqb (done .number) 0) (claimHolds inst plan claimed (emptyWeight (length (sizesOf inst)) (done .rows))) n
     coding false h n = encode-never inst t n

@@ -2,7 +2,7 @@
 -- and since no weight of such rows is too great, it is never stopped by 11.
 use Prim.Native.Nat.{ℕ, suc, _≤_}
 use native.Mathlib.Omega.{arith}
-use mathlib.Core.Path.{_≡_, refl, ap, subst}
+use mathlib.Core.Path.{_≡_, refl, sym, ap, subst}
 use mathlib.Core.Bool.{Bool, true, false, _&&_, cond}
 use mathlib.Core.List.{List, [], _∷_}
 use mathlib.Core.Option.{Option, none, some}
@@ -12,14 +12,13 @@ use borrow.Author.Tests.{ltb-true, ltb-false, lt-ltb}
 use Rattle.wcsp.specs.Row.{Row}
 use Rattle.wcsp.specs.Entry.{Entry}
 use Rattle.wcsp.specs.Rule.{permitted}
-use Rattle.wcsp.specs.Resolve.{Pair, noRow, resolve, Permitted}
+use Rattle.wcsp.specs.Resolve.{Pair, noRow, resolve, MayResolve}
 use Rattle.wcsp.proofs.Lists.{and-left, and-right}
 use Rattle.words.specs.Layout.{kindOf, stepVariableIn, firstRowIn, secondRowIn}
-use Rattle.fields.specs.Padding.{padded}
 use Rattle.fields.specs.Entries.{Entries}
 use Rattle.table.specs.Layout.{capacity, tableWords}
-use Rattle.table.proofs.Held.{Held, held}
-use Rattle.stepping.specs.Step.{Stepping, refusing, stepping, allowed}
+use Rattle.table.proofs.Own.{Held, held}
+use Rattle.stepping.specs.Step.{Stepping, refusing, stepsTo, allowed}
 use Rattle.checker.specs.Replay.{permittedPair, namedPair, replayOn, replayWord, Replayed, replayNext, replay}
 use Rattle.checker.proofs.Kept.{Takes, Keeps, step-keeps, keeps-light, keeps-holdable}
 
@@ -27,7 +26,7 @@ use Rattle.checker.proofs.Kept.{Takes, Keeps, step-keeps, keeps-light, 
 
 data PairView (ds : List ℕ) (rs : List Row) : Option Pair → Type 0 where
   noPair : PairView ds rs none
-  onPair : {pr : Pair} → Permitted ds rs pr → PairView ds rs (some pr)
+  onPair : {pr : Pair} → MayResolve ds rs pr → PairView ds rs (some pr)
 
 module _ (ds : List ℕ) (rs : List Row) where
   pair-view : (pr : Pair) → PairView ds rs (permittedPair ds rs pr)
@@ -71,19 +70,44 @@ module _ (ds : List ℕ) (rs : List Row) where
       go false = noPair
 
   -- a named pair is permitted
-  pub named-permitted : (w : ℕ) (pr : Pair) → namedPair ds rs w ≡ some pr → Permitted ds rs pr
+  pub named-permitted : (w : ℕ) (pr : Pair) → namedPair ds rs w ≡ some pr → MayResolve ds rs pr
   named-permitted w pr e = go _ (named-view w) e
     where
       pair-in : Option Pair → Pair
       pair-in (some p) = p
       pair-in none = pr
 
-      go : (o : Option Pair) → PairView ds rs o → o ≡ some pr → Permitted ds rs pr
+      go : (o : Option Pair) → PairView ds rs o → o ≡ some pr → MayResolve ds rs pr
       go none noPair q = absurd (let z : _≡_ {A = ℕ} 0 1 = cc in omega arith)
-      go (some p) (onPair m) q = subst (Permitted ds rs) (ap pair-in q) m
+      go (some p) (onPair m) q = subst (MayResolve ds rs) (ap pair-in q) m
+
+  -- a pair that passes the test is permitted
+  pub permitted-told : (pr p : Pair) → permittedPair ds rs pr ≡ some p → MayResolve ds rs pr
+  unfolding permittedPair
+  permitted-told pr p e = subst (MayResolve ds rs) (sym (is e)) (go _ (pair-view pr) e)
+    where
+      test : Bool
+      test =
+          ltb (pr .variable) (length ds) && ltb (pr .first) (pr .second) && ltb (pr .second) (length rs)
+          && permitted ds (pr .variable) (getD rs (pr .first) noRow .signs) (getD rs (pr .second) noRow .signs)
+
+      pair-in : Option Pair → Pair
+      pair-in (some x) = x
+      pair-in none = pr
+
+      same : (b : Bool) → cond b (some pr) none ≡ some p → pr ≡ p
+      same true q = ap pair-in q
+      same false q = ap pair-in q
+
+      is : permittedPair ds rs pr ≡ some p → pr ≡ p
+      is q = same test q
+
+      go : (o : Option Pair) → PairView ds rs o → o ≡ some p → MayResolve ds rs p
+      go none noPair q = absurd (let z : _≡_ {A = ℕ} 0 1 = cc in omega arith)
+      go (some x) (onPair m) q = subst (MayResolve ds rs) (ap pair-in q) m
 
   -- a permitted pair passes the test
-  pub permitted-passes : (pr : Pair) → Permitted ds rs pr → permittedPair ds rs pr ≡ some pr
+  pub permitted-passes : (pr : Pair) → MayResolve ds rs pr → permittedPair ds rs pr ≡ some pr
   unfolding permittedPair
   permitted-passes pr m =
       rw (lt-ltb (pr .variable) (length ds) (m .known), lt-ltb (pr .first) (pr .second) (m .ordered), lt-ltb (pr .second) (length rs) (m .inTable), m .may)
@@ -106,51 +130,51 @@ pub record Ended (ds : List ℕ) (es : List Entry) (cap : ℕ) (done : Replayed)
 
 data WordView (ds : List ℕ) (cap : ℕ) (rs : List Row) : Stepping → Type 0 where
   refused : {k : ℕ} → (k ≡ 11 → ⊥) → WordView ds cap rs (refusing k)
-  made : {pr : Pair} → Permitted ds rs pr → length (resolve ds pr rs) ≤ cap → WordView ds cap rs (stepping pr (resolve ds pr rs))
+  made : {pr : Pair} → MayResolve ds rs pr → length (resolve ds pr rs) ≤ cap → WordView ds cap rs (stepsTo pr (resolve ds pr rs))
 
 module _ {ds : List ℕ} {es : List Entry} (n : Entries ds 0 es) (cap : ℕ) where
   module _ {rs : List Row} (k : Keeps ds es rs) where
     -- 11 never: only the room is asked for
-    pub allowed-room : (pr : Pair) → Permitted (padded ds) rs pr
-        → allowed cap pr (resolve (padded ds) pr rs)
-        ≡ cond (ltb cap (length (resolve (padded ds) pr rs))) (refusing 12) (stepping pr (resolve (padded ds) pr rs))
+    pub allowed-room : (pr : Pair) → MayResolve ds rs pr
+        → allowed cap pr (resolve ds pr rs)
+        ≡ cond (ltb cap (length (resolve ds pr rs))) (refusing 12) (stepsTo pr (resolve ds pr rs))
     unfolding allowed
     allowed-room pr m =
-        let rs′ = resolve (padded ds) pr rs in
+        let rs′ = resolve ds pr rs in
         rw (keeps-light (step-keeps k pr m) n)
 
-    allowed-view : (pr : Pair) → Permitted (padded ds) rs pr
-        → WordView (padded ds) cap rs (allowed cap pr (resolve (padded ds) pr rs))
+    allowed-view : (pr : Pair) → MayResolve ds rs pr
+        → WordView ds cap rs (allowed cap pr (resolve ds pr rs))
     allowed-view pr m = rw (allowed-room pr m) (go (ltb cap (length rs′)) refl)
       where
         rs′ : List Row
-        rs′ = resolve (padded ds) pr rs
+        rs′ = resolve ds pr rs
 
-        go : (b : Bool) → ltb cap (length rs′) ≡ b → WordView (padded ds) cap rs (cond b (refusing 12) (stepping pr rs′))
+        go : (b : Bool) → ltb cap (length rs′) ≡ b → WordView ds cap rs (cond b (refusing 12) (stepsTo pr rs′))
         go true e = refused (λ (z : _≡_ {A = ℕ} 12 11). omega arith)
         go false e = made m (ltb-false cap (length rs′) e)
 
-    word-view : (w : ℕ) → WordView (padded ds) cap rs (replayWord (padded ds) cap rs w)
+    word-view : (w : ℕ) → WordView ds cap rs (replayWord ds cap rs w)
     unfolding replayWord replayOn
-    word-view w = go _ (named-view (padded ds) rs w)
+    word-view w = go _ (named-view ds rs w)
       where
-        go : (o : Option Pair) → PairView (padded ds) rs o
-            → WordView (padded ds) cap rs (replayOn (padded ds) cap rs o)
+        go : (o : Option Pair) → PairView ds rs o
+            → WordView ds cap rs (replayOn ds cap rs o)
         go none noPair = refused (λ (z : _≡_ {A = ℕ} 6 11). omega arith)
         go (some pr) (onPair m) = allowed-view pr m
 
   -- ---- the whole replay
 
-  pub replay-ended : (ws : List ℕ) (rs : List Row) (k : ℕ) → Left ds es cap rs → Ended ds es cap (replay (padded ds) cap rs k ws)
+  pub replay-ended : (ws : List ℕ) (rs : List Row) (k : ℕ) → Left ds es cap rs → Ended ds es cap (replay ds cap rs k ws)
   unfolding replay replayNext
   replay-ended [] rs k l = record { left = l; never = λ (z : _≡_ {A = ℕ} 0 11). omega arith }
   replay-ended (w ∷ ws) rs k l = go _ (word-view (l .keeps) w) (λ rs′ l′. replay-ended ws rs′ (suc k) l′)
     where
-      go : (s : Stepping) → WordView (padded ds) cap rs s
-          → ((rs′ : List Row) → Left ds es cap rs′ → Ended ds es cap (replay (padded ds) cap rs′ (suc k) ws))
+      go : (s : Stepping) → WordView ds cap rs s
+          → ((rs′ : List Row) → Left ds es cap rs′ → Ended ds es cap (replay ds cap rs′ (suc k) ws))
           → Ended ds es cap
-          (replayNext (record { number = 6; steps = k; rows = rs }) (λ number. record { number = number; steps = k; rows = rs })
-          (λ rs′. replay (padded ds) cap rs′ (suc k) ws) s)
+          (replayNext (λ number. record { number = number; steps = k; rows = rs })
+          (λ rs′. replay ds cap rs′ (suc k) ws) s)
       go (refusing number) (refused f) ih = record { left = l; never = f }
-      go (stepping pr rs′) (made m f) ih =
+      go (stepsTo pr rs′) (made m f) ih =
           ih rs′ (record { keeps = step-keeps (l .keeps) pr m; fits = f })

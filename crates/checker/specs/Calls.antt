@@ -4,10 +4,8 @@ use mathlib.Core.Bool.{Bool, _&&_, cond}
 use mathlib.Core.List.{List}
 use lib.ListN.{length}
 use lib.Dec.{eqb}
-use Rattle.wcsp.specs.Row.{Row, emptyWeight}
+use Rattle.wcsp.specs.Row.{emptyWeight}
 use Rattle.wcsp.specs.Entry.{cost}
-use Rattle.fields.specs.Limits.{maxVariables}
-use Rattle.fields.specs.Padding.{padded}
 use Rattle.fields.specs.Assignment.{isAssignment}
 use Rattle.input.specs.Instance.{sizesOf, entriesOf}
 use Rattle.table.specs.Layout.{capacity, tableWords}
@@ -20,10 +18,10 @@ pub record CheckReturned : Type 0 where
   pub answer : CheckAnswer
   pub table : List ℕ
 
--- the claim holds of these rows: the bytes are an assignment, and the cost is the empty row's weight and the assignment's cost
-unfoldable pub claimHolds : List ℕ → List ℕ → ℕ → List Row → Bool
-claimHolds inst plan claimed rs =
-    isAssignment (sizesOf inst) plan && eqb claimed (emptyWeight maxVariables rs) && eqb claimed (cost (entriesOf inst) plan)
+-- the claim holds: the bytes are an assignment, and the claimed cost is the empty row's weight and the assignment's cost
+unfoldable pub claimHolds : List ℕ → List ℕ → ℕ → ℕ → Bool
+claimHolds inst plan claimed empty =
+    isAssignment (sizesOf inst) plan && eqb claimed empty && eqb claimed (cost (entriesOf inst) plan)
 
 -- after the replay: its number, then 7; the table after the last good step
 unfoldable pub judged : List ℕ → List ℕ → ℕ → ℕ → Replayed → CheckReturned
@@ -32,7 +30,7 @@ judged inst plan claimed len done =
     record {
       answer =
           record {
-            number = cond (eqb (done .number) 0) (cond (claimHolds inst plan claimed (done .rows)) 0 7) (done .number);
+            number = cond (eqb (done .number) 0) (cond (claimHolds inst plan claimed (emptyWeight (length (sizesOf inst)) (done .rows))) 0 7) (done .number);
             steps = done .steps;
           };
       table = tableWords len (sizesOf inst) (done .rows);
@@ -45,5 +43,5 @@ checkCall inst derivation plan claimed t =
     let coded = encodeCall inst t in
     cond (eqb (coded .answer .number) 0)
     (judged inst plan claimed (length t)
-    (replay (padded (sizesOf inst)) (capacity (length t) (length (sizesOf inst))) (encodedRows inst) 0 derivation))
+    (replay (sizesOf inst) (capacity (length t) (length (sizesOf inst))) (encodedRows inst) 0 derivation))
     (record { answer = record { number = coded .answer .number; steps = 0 }; table = t })

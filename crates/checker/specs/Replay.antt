@@ -1,4 +1,4 @@
--- The replay of step words on rows, each naming any permitted pair, and in a table.
+-- The replay of step words on rows, each naming any permitted pair.
 use Prim.Native.Nat.{ℕ, suc}
 use mathlib.Core.Bool.{_&&_, cond}
 use mathlib.Core.List.{List, [], _∷_}
@@ -9,12 +9,7 @@ use Rattle.wcsp.specs.Row.{Row}
 use Rattle.wcsp.specs.Rule.{permitted}
 use Rattle.wcsp.specs.Resolve.{Pair, noRow, resolve}
 use Rattle.words.specs.Layout.{kindOf, stepVariableIn, firstRowIn, secondRowIn}
-use Rattle.table.specs.Meaning.{tableRows, domains}
-use Rattle.table.specs.Check.{capacityOf}
-use Rattle.stepping.specs.Step.{Stepping, finished, refusing, stepping, allowed}
-use Rattle.stepping.specs.Advance.{withRows}
-use Rattle.checker.specs.declared.Named.{Named}
-use Rattle.checker.specs.declared.Outcome.{Outcome}
+use Rattle.stepping.specs.Step.{Stepping, refusing, stepsTo, allowed}
 
 -- the pair of a step word, if it is a permitted one: variable known, first row below the second, both in the table
 unfoldable pub permittedPair : List ℕ → List Row → Pair → Option Pair
@@ -31,11 +26,6 @@ unfolding permittedPair
 namedPair ds rs w =
     cond (eqb (kindOf w) 7) (permittedPair ds rs (record { variable = stepVariableIn w; first = firstRowIn w; second = secondRowIn w })) none
 
--- the pair that a word names, as the code has it
-unfoldable pub namedOf : Option Pair → Named
-namedOf none = Named.Nothing
-namedOf (some pr) = Named.Pair (pr .variable) (pr .first) (pr .second)
-
 -- one step word: 6, 11, 12, or the rows after the step
 unfoldable pub replayOn : List ℕ → ℕ → List Row → Option Pair → Stepping
 replayOn ds cap rs none = refusing 6
@@ -51,32 +41,15 @@ pub record Replayed : Type 0 where
   pub steps : ℕ
   pub rows : List Row
 
-unfoldable pub replayNext : Replayed → (ℕ → Replayed) → (List Row → Replayed) → Stepping → Replayed
-replayNext ends stops goes finished = ends
-replayNext ends stops goes (refusing number) = stops number
-replayNext ends stops goes (stepping pr rs) = goes rs
+unfoldable pub replayNext : (ℕ → Replayed) → (List Row → Replayed) → Stepping → Replayed
+replayNext stops goes (refusing number) = stops number
+replayNext stops goes (stepsTo pr rs) = goes rs
 
 -- each step word in turn, after k good ones
 unfoldable pub replay : List ℕ → ℕ → List Row → ℕ → List ℕ → Replayed
 unfolding replayWord replayNext
 replay ds cap rs k [] = record { number = 0; steps = k; rows = rs }
 replay ds cap rs k (w ∷ ws) =
-    replayNext (record { number = 6; steps = k; rows = rs }) (λ number. record { number = number; steps = k; rows = rs })
+    replayNext (λ number. record { number = number; steps = k; rows = rs })
     (λ rs′. replay ds cap rs′ (suc k) ws)
     (replayWord ds cap rs w)
-
--- a replay's answer, and its table as it returns
-pub record ReplayReturned : Type 0 where
-  pub answer : Outcome
-  pub table : List ℕ
-
-abbrev pub replayReturns : List ℕ → Replayed → ReplayReturned
-replayReturns t done =
-    record {
-      answer = record { number = done .number; steps = done .steps; count = length (done .rows) };
-      table = withRows t (done .rows);
-    }
-
--- the replay of step words in a valid table
-abbrev pub replayCall : List ℕ → List ℕ → ReplayReturned
-replayCall t ws = replayReturns t (replay (domains t) (capacityOf t) (tableRows t) 0 ws)

@@ -5,9 +5,8 @@ use mathlib.Core.List.{List}
 use Rattle.wcsp.specs.Clause.{InRange}
 use Rattle.wcsp.specs.Row.{falsified}
 use Rattle.wcsp.specs.Entry.{Entry, cost}
-use Rattle.fields.specs.Padding.{paddedValues}
 use Rattle.input.specs.Instance.{sizesOf, entriesOf}
-use Rattle.table.specs.Meaning.{tableRows}
+use Rattle.table.specs.Meaning.{ownRows}
 use Rattle.encoding.specs.Calls.{encodeCall}
 use Rattle.checker.specs.Calls.{checkCall}
 
@@ -26,7 +25,7 @@ AcceptedIsLeast = (inst derivation plan : List ℕ) (claimed : ℕ) (t : List �
 abbrev pub LeftConserves : Type 0
 LeftConserves = (inst derivation plan : List ℕ) (claimed : ℕ) (t p : List ℕ) → encodeCall inst t .answer .number ≡ 0
     → InRange (sizesOf inst) p
-    → falsified (paddedValues p) (tableRows (checkCall inst derivation plan claimed t .table)) ≡ cost (entriesOf inst) p
+    → falsified p (ownRows (checkCall inst derivation plan claimed t .table)) ≡ cost (entriesOf inst) p
 
 -- 11 never: no weight in a table from an accepted instance passes the limit, whatever step words are replayed
 abbrev pub NeverTooHeavy : Type 0

@@ -2,14 +2,16 @@
 ghost use mathlib.Core.Path.{_≡_};
 ghost use mathlib.Core.Bool.{true, cond};
 ghost use Prim.Native.Nat.{_+_};
+ghost use Rattle.wcsp.specs.Row.{emptyWeight};
+ghost use Rattle.fields.specs.Limits.{maxVariables};
 ghost use Rattle.input.specs.Instance.{instanceFault};
 ghost use Rattle.table.specs.Meaning.{variablesOf, rowCount, tableRows, domains};
 ghost use Rattle.table.specs.Valid.{validTable};
 ghost use Rattle.table.specs.Check.{shapeOf};
-ghost use Rattle.checker.specs.Replay.{namedPair, namedOf, replayCall};
+ghost use Rattle.checker.specs.Replay.{namedPair};
+ghost use Rattle.checker.specs.Twelve.{namedOf, replayCall};
 ghost use Rattle.checker.specs.Calls.{claimHolds, checkCall};
 use stepping::Advanced;
-use table::Checked;
 use table::Shape;
 use words::Word;
 
@@ -26,7 +28,7 @@ enum Named {
 }
 
 // How a replay ended: its number (0: every word was good), the steps replayed, and the number of rows after the last.
-struct Outcome {
+struct ReplayEnd {
     pub number: u32,
     pub steps: usize,
     pub count: usize,
@@ -61,7 +63,7 @@ fn named_pair(t: &[u32], shape: Shape, w: u32) -> Named
 }
 
 // Each step word in turn on a valid table, up to the first that is refused: 6, 11, 12.
-fn replay_valid(t: &mut [u32], shape: Shape, derivation: &[u32]) -> Outcome
+fn replay_valid(t: &mut [u32], shape: Shape, derivation: &[u32]) -> ReplayEnd
     requires { ⌜ (validTable (now t) ≡ true) × (shape ≡ shapeOf (now t)) ⌝ }
     ensures { λ r. ⌜ record { answer = r; table = now (t .exit) } ≡ replayCall (now (t .entry)) (now (derivation .entry)) ⌝ }
 {
@@ -76,16 +78,16 @@ fn replay_valid(t: &mut [u32], shape: Shape, derivation: &[u32]) -> Outcome
             fulls,
         };
         let Named::Pair(v, i, j) = named_pair(t, here, derivation[k]) else {
-            return Outcome {
+            return ReplayEnd {
                 number: 6,
                 steps: k,
                 count,
             };
         };
         match stepping::advance(t, here, v, i, j) {
-            Advanced::Made(now, _) => count = now,
+            Advanced::Made(now) => count = now,
             Advanced::Refused(number) => {
-                return Outcome {
+                return ReplayEnd {
                     number,
                     steps: k,
                     count,
@@ -94,7 +96,7 @@ fn replay_valid(t: &mut [u32], shape: Shape, derivation: &[u32]) -> Outcome
         }
         k += 1;
     }
-    Outcome {
+    ReplayEnd {
         number: 0,
         steps: k,
         count,
@@ -104,7 +106,7 @@ fn replay_valid(t: &mut [u32], shape: Shape, derivation: &[u32]) -> Outcome
 // The claim on a valid table: 7 unless the claimed cost is the plan's and the empty row's weight.
 fn judge(instance: &[u32], plan: &[u8], claimed: u64, t: &[u32], base: usize, count: usize) -> u32
     requires { ⌜ (instanceFault (now instance) ≡ 0) × (validTable (now t) ≡ true) × (base ≡ variablesOf (now t) + 2) × (count ≡ rowCount (now t)) ⌝ }
-    ensures { λ r. ⌜ r ≡ cond (claimHolds (now (instance .entry)) (now (plan .entry)) claimed (tableRows (now (t .entry)))) 0 7 ⌝ }
+    ensures { λ r. ⌜ r ≡ cond (claimHolds (now (instance .entry)) (now (plan .entry)) claimed (emptyWeight maxVariables (tableRows (now (t .entry))))) 0 7 ⌝ }
 {
     let priced = cost::cost(instance, plan);
     if priced.number != 0 {
@@ -136,13 +138,8 @@ pub fn check(
             steps: 0,
         };
     }
-    // The encoding wrote a valid table, so only its shape is asked here.
-    let Checked::Table(shape) = table::check(t) else {
-        return CheckAnswer {
-            number: 9,
-            steps: 0,
-        };
-    };
+    // The encoding wrote a valid table, so its shape is read without the test.
+    let shape = table::read_shape(t);
     let done = replay_valid(t, shape, derivation);
     if done.number != 0 {
         return CheckAnswer {

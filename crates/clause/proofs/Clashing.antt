@@ -1,17 +1,18 @@
 -- Two valid clauses clash at a variable other than v exactly if their union, with nothing at v, has a full sign.
--- A full union needs both signs present, since neither alone is full. And the meet at v is the union with the meet put in there.
+-- A full union needs both signs present, since neither alone is full.
 use Prim.Native.Nat.{ℕ, zero, suc, _<_}
 use native.Mathlib.Omega.{arith}
 use mathlib.Core.Path.{_≡_, refl, ap, ap₂, _∙_}
 use mathlib.Core.Bool.{true, _&&_, _||_, and-false}
 use mathlib.Core.List.{List, [], _∷_, map}
-use lib.ListN.{length, getD, set}
+use lib.ListN.{set}
 use lib.Bits.{bitAnd, bitOr, or-zero-l, or-zero-r, and-comm}
 use lib.Dec.{eqb}
 use borrow.Author.Tests.{eq-eqb, ne-eqb}
 use Rattle.wcsp.specs.Sign.{full, present, within}
 use Rattle.wcsp.specs.Clause.{ValidClause, nil, cons, tautology}
-use Rattle.wcsp.specs.Rule.{joined, metAt, clashing, nested}
+use Rattle.wcsp.specs.Rule.{joined, others, clashing, nested}
+use Rattle.wcsp.proofs.Validity.{others-valid}
 use Rattle.clause.specs.Packed.{anyEqual}
 
 -- ---- a full sign as a place where two lists agree
@@ -22,15 +23,6 @@ tautology-anyEqual [] [] = refl
 tautology-anyEqual [] (S ∷ x) = refl
 tautology-anyEqual (d ∷ ds) [] = refl
 tautology-anyEqual (d ∷ ds) (S ∷ x) = ap (λ b. eqb S (full d) || b) (tautology-anyEqual ds x)
-
--- ---- the meet at one variable
-
-pub metAt-set : (v : ℕ) (x y : List ℕ) → metAt v x y ≡ set (joined x y) v (bitAnd (getD x v 0) (getD y v 0))
-unfolding metAt joined
-metAt-set v [] y = refl
-metAt-set v (S ∷ x) [] = refl
-metAt-set zero (S ∷ x) (T ∷ y) = refl
-metAt-set (suc v) (S ∷ x) (T ∷ y) = ap (λ l. bitOr S T ∷ l) (metAt-set v x y)
 
 -- ---- clashes
 
@@ -44,21 +36,25 @@ full-union d (suc S) zero h l =
 full-union d (suc S) (suc T) h l =
     rw (ne-eqb (suc S) 0 (λ e. omega arith), ne-eqb (suc T) 0 (λ e. omega arith))
 
-pub tautology-clashing : {ds x y : List ℕ} → ValidClause ds x → ValidClause ds y
-    → tautology ds (joined x y) ≡ clashing ds (length ds) x y
+tautology-clashing : {ds x y : List ℕ} → ValidClause ds x → ValidClause ds y → tautology ds (joined x y) ≡ clashing ds x y
 unfolding tautology joined clashing
 tautology-clashing nil nil = refl
 tautology-clashing (cons {a = d} {b = S} h hs) (cons {b = T} l ls) =
     ap₂ (λ a b. a || b) (full-union d S T h l) (tautology-clashing hs ls)
 
+-- nothing at v, in the union or in both
+joined-others : (v : ℕ) (x y : List ℕ) → set (joined x y) v 0 ≡ joined (others v x) (others v y)
+unfolding joined
+joined-others v [] y = refl
+joined-others zero (S ∷ x) [] = refl
+joined-others (suc v) (S ∷ x) [] = refl
+joined-others zero (S ∷ x) (T ∷ y) = refl
+joined-others (suc v) (S ∷ x) (T ∷ y) = ap (λ l. bitOr S T ∷ l) (joined-others v x y)
+
 pub tautology-clashing-at : {ds x y : List ℕ} → (v : ℕ) → ValidClause ds x → ValidClause ds y
-    → tautology ds (set (joined x y) v 0) ≡ clashing ds v x y
-unfolding tautology joined clashing
-tautology-clashing-at v nil nil = refl
-tautology-clashing-at zero (cons {a = d} {b = S} h hs) (cons {b = T} l ls) =
-    rw (ne-eqb 0 (full d) (λ e. omega arith)) (tautology-clashing hs ls)
-tautology-clashing-at (suc v) (cons {a = d} {b = S} h hs) (cons {b = T} l ls) =
-    ap₂ (λ a b. a || b) (full-union d S T h l) (tautology-clashing-at v hs ls)
+    → tautology ds (set (joined x y) v 0) ≡ clashing ds (others v x) (others v y)
+tautology-clashing-at {ds} {x} {y} v a b =
+    ap (tautology ds) (joined-others v x y) ∙ tautology-clashing (others-valid v a) (others-valid v b)
 
 -- ---- nested signs
 

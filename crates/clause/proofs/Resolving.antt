@@ -8,12 +8,13 @@ use mathlib.Core.List.{List}
 use lib.ListN.{getD, set}
 use lib.Bits.{bitAnd, and-le-l}
 use Rattle.wcsp.specs.Clause.{ValidClause, tautology}
-use Rattle.wcsp.specs.Rule.{joined, metAt, clashing, nested, permitted}
+use Rattle.wcsp.specs.Rule.{joined, others, clashing, nested, permitted}
+use Rattle.wcsp.proofs.Validity.{met}
 use Rattle.words.specs.Layout.{unpacked}
 use Rattle.clause.specs.declared.Clause.{Clause}
 use Rattle.clause.specs.Packed.{signsOf, Holds, FullSigns, anyEqual}
 use Rattle.clause.proofs.Blocks.{anyEqual-block}
-use Rattle.clause.proofs.Clashing.{tautology-anyEqual, metAt-set, tautology-clashing-at}
+use Rattle.clause.proofs.Clashing.{tautology-anyEqual, tautology-clashing-at}
 
 -- ---- a full sign, block by block
 
@@ -54,14 +55,13 @@ pub complemented-holds : (x y : Clause) (v s f : ℕ) → Holds y (set (signsOf 
 complemented-holds x y v s f h e = rw (← e) h
 
 pub met-holds : (x y u z : Clause) (v s t : ℕ) → Holds u (joined (signsOf x) (signsOf y)) → s ≡ getD (signsOf x) v 0
-    → t ≡ getD (signsOf y) v 0 → Holds z (set (signsOf u) v (bitAnd s t)) → Holds z (metAt v (signsOf x) (signsOf y))
+    → t ≡ getD (signsOf y) v 0 → Holds z (set (signsOf u) v (bitAnd s t)) → Holds z (met v (signsOf x) (signsOf y))
 met-holds x y u z v s t h p q g =
     record {
       packed = g .packed;
       signsAre =
           g .signsAre ∙ ap (λ l. set l v (bitAnd s t)) (h .signsAre)
-          ∙ ap₂ (λ a b. set (joined (signsOf x) (signsOf y)) v (bitAnd a b)) p q
-          ∙ sym (metAt-set v (signsOf x) (signsOf y));
+          ∙ ap₂ (λ a b. set (joined (signsOf x) (signsOf y)) v (bitAnd a b)) p q;
     }
 
 -- a sign met with another is no greater
@@ -75,7 +75,7 @@ abbrev Over : Clause → Clause → Clause → (List ℕ → Type 0) → Type 0
 Over f x y P = (ds : List ℕ) → FullSigns f ds → ValidClause ds (signsOf x) → ValidClause ds (signsOf y) → P ds
 
 pub clashes-over : (x y f u z : Clause) (v : ℕ) (r : Bool) → Holds u (joined (signsOf x) (signsOf y)) → Holds z (set (signsOf u) v 0)
-    → ((ds : List ℕ) → FullSigns f ds → r ≡ tautology ds (signsOf z)) → Over f x y (λ ds. r ≡ clashing ds v (signsOf x) (signsOf y))
+    → ((ds : List ℕ) → FullSigns f ds → r ≡ tautology ds (signsOf z)) → Over f x y (λ ds. r ≡ clashing ds (others v (signsOf x)) (others v (signsOf y)))
 clashes-over x y f u z v r h g t ds e a b =
     t ds e ∙ ap (tautology ds) (g .signsAre ∙ ap (λ l. set l v 0) (h .signsAre)) ∙ tautology-clashing-at v a b
 
@@ -87,7 +87,7 @@ module _ (x y f : Clause) (v s t : ℕ) (r : Bool) (p : s ≡ getD (signsOf x) v
   unfolding permitted
   refused e ds g a b = rw (nesting, e)
 
-  pub allowed : r ≡ false → (w : Bool) → Over f x y (λ ds. w ≡ clashing ds v (signsOf x) (signsOf y))
+  pub allowed : r ≡ false → (w : Bool) → Over f x y (λ ds. w ≡ clashing ds (others v (signsOf x)) (others v (signsOf y)))
       → Over f x y (λ ds. not w ≡ permitted ds v (signsOf x) (signsOf y))
   unfolding permitted
   allowed e w k ds g a b = rw (nesting, e, ← (k ds g a b))

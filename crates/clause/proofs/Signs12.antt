@@ -16,7 +16,7 @@ use Rattle.wcsp.proofs.Lists.{same-refl, same-eq, ne-same}
 use Rattle.words.specs.Layout.{unpacked}
 use Rattle.words.proofs.Packing.{parts-bounded}
 use Rattle.clause.specs.declared.Clause.{Clause}
-use Rattle.clause.specs.Packed.{signsIn, signsOf, Packed, Holds}
+use Rattle.clause.specs.Packed.{signsIn, signsOf, FitsBlocks, Holds}
 use Rattle.clause.proofs.Blocks.{unpacked-injective, joined-block, or-small, bucket-block, bucket-zero}
 
 -- the signs from the second, the third and the last block on
@@ -32,9 +32,6 @@ fromD x = unpacked (x .d)
 pub signsOf-length : (x : Clause) → length (signsOf x) ≡ 12
 unfolding signsOf
 signsOf-length x = refl
-
-pub holds-own : (x : Clause) → Packed x → Holds x (signsOf x)
-holds-own x p = record { packed = p; signsAre = refl }
 
 pub holds-blocks : (a b c d : ℕ) → a < 16777216 → b < 16777216 → c < 16777216 → d < 16777216
     → Holds (record { a = a; b = b; c = c; d = d }) (signsIn a b c d)
@@ -81,7 +78,7 @@ small x u h f (suc (suc zero)) = parts-bounded x h .2
 small x u h f (suc (suc (suc v))) = f v
 
 -- every sign of a packed clause is a byte
-pub sign-small : (x : Clause) → Packed x → (v : ℕ) → getD (signsOf x) v 0 < 256
+pub sign-small : (x : Clause) → FitsBlocks x → (v : ℕ) → getD (signsOf x) v 0 < 256
 unfolding signsOf
 sign-small x p =
     small (x .a) (fromB x) (p .a) (small (x .b) (fromC x) (p .b)
@@ -95,7 +92,7 @@ put-here x r u k s e h = ap (λ l. l ++ u) e ∙ sym (set-append-left (unpacked 
 put-past : (x : ℕ) (u w : List ℕ) (k s : ℕ) → w ≡ set u k s → unpacked x ++ w ≡ set (unpacked x ++ u) (3 + k) s
 put-past x u w k s e = let q : 3 + k ≡ suc (suc (suc k)) = omega arith in rw (q, e)
 
-module _ (x : Clause) (v k s r : ℕ) (p : Packed x) where
+module _ (x : Clause) (v k s r : ℕ) (p : FitsBlocks x) where
   pub replaced-a : (unpacked r ≡ set (unpacked (x .a)) k s) × (r < 16777216) → v ≡ k → k < 3
       → Holds (record { a = r; b = x .b; c = x .c; d = x .d }) (set (signsOf x) v s)
   unfolding signsOf
@@ -136,7 +133,7 @@ module _ (x : Clause) (v k s r : ℕ) (p : Packed x) where
 
 -- ---- two clauses joined
 
-pub union-holds : (x y : Clause) → Packed x → Packed y
+pub union-holds : (x y : Clause) → FitsBlocks x → FitsBlocks y
     → Holds (record { a = bitOr (x .a) (y .a); b = bitOr (x .b) (y .b); c = bitOr (x .c) (y .c); d = bitOr (x .d) (y .d) })
     (joined (signsOf x) (signsOf y))
 unfolding signsOf joined

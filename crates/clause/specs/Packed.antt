@@ -17,7 +17,7 @@ unfoldable pub signsOf : Clause → List ℕ
 signsOf x = signsIn (x .a) (x .b) (x .c) (x .d)
 
 -- every block holds three signs and nothing else
-pub record Packed (x : Clause) : Type 0 where
+pub record FitsBlocks (x : Clause) : Type 0 where
   pub a : x .a < 16777216
   pub b : x .b < 16777216
   pub c : x .c < 16777216
@@ -25,7 +25,7 @@ pub record Packed (x : Clause) : Type 0 where
 
 -- x is a packed clause with these signs
 pub record Holds (x : Clause) (signs : List ℕ) : Type 0 where
-  pub packed : Packed x
+  pub packed : FitsBlocks x
   pub signsAre : signsOf x ≡ signs
 
 -- the clause of the full signs of twelve variables with these sizes

@@ -3,10 +3,11 @@ ghost use mathlib.Core.Path.{_≡_};
 ghost use mathlib.Core.List.{List};
 ghost use Prim.Native.Nat.{ℕ, _<_, _≤_, _-_, _/_, _%_, _+_, _*_};
 ghost use lib.ListN.{getD, set, replicate};
+ghost use lib.Bits.{bitAnd};
 ghost use Rattle.wcsp.specs.Clause.{ValidClause, tautology, same, bucket};
-ghost use Rattle.wcsp.specs.Rule.{joined, metAt, nested, clashing, permitted};
+ghost use Rattle.wcsp.specs.Rule.{joined, others, nested, clashing, permitted};
 ghost use Rattle.words.specs.Layout.{unpacked};
-ghost use Rattle.clause.specs.Packed.{anyEqual, signsOf, Packed, Holds, FullSigns};
+ghost use Rattle.clause.specs.Packed.{anyEqual, signsOf, FitsBlocks, Holds, FullSigns};
 
 pub struct Clause {
     pub a: u32,
@@ -95,7 +96,7 @@ impl Clause {
     }
 
     pub fn sign(self, v: u32) -> u32
-        requires { ⌜ Packed self × (v < 12) ⌝ }
+        requires { ⌜ FitsBlocks self × (v < 12) ⌝ }
         ensures { λ r. ⌜ (r ≡ getD (signsOf self) v 0) × (r < 256) ⌝ }
     {
         let k = v % 3;
@@ -109,7 +110,7 @@ impl Clause {
 
     // The clause with one variable's sign replaced.
     pub fn replaced(mut self, v: u32, sign: u32) -> Self
-        requires { ⌜ Packed self × (v < 12) × (sign < 256) ⌝ }
+        requires { ⌜ FitsBlocks self × (v < 12) × (sign < 256) ⌝ }
         ensures { λ r. ⌜ Holds r (set (signsOf self) v sign) ⌝ }
     {
         let k = v % 3;
@@ -135,7 +136,7 @@ impl Clause {
 
     // The clause with one variable's sign complemented within the full sign.
     pub fn complemented(mut self, v: u32, full: u32) -> Self
-        requires { ⌜ Packed self × (v < 12) × (getD (signsOf self) v 0 ≤ full) × (full < 256) ⌝ }
+        requires { ⌜ FitsBlocks self × (v < 12) × (getD (signsOf self) v 0 ≤ full) × (full < 256) ⌝ }
         ensures { λ r. ⌜ Holds r (set (signsOf self) v (full - getD (signsOf self) v 0)) ⌝ }
     {
         self = self.replaced(v, full - self.sign(v));
@@ -144,7 +145,7 @@ impl Clause {
 
     // The union with another clause: the signs joined at every variable.
     pub fn union(mut self, other: Clause) -> Self
-        requires { ⌜ Packed self × Packed other ⌝ }
+        requires { ⌜ FitsBlocks self × FitsBlocks other ⌝ }
         ensures { λ r. ⌜ Holds r (joined (signsOf self) (signsOf other)) ⌝ }
     {
         self.a = self.a | other.a;
@@ -156,15 +157,15 @@ impl Clause {
 
     // The union but at one variable, where the signs meet.
     pub fn met_at(self, other: Clause, v: u32) -> Self
-        requires { ⌜ Packed self × Packed other × (v < 12) ⌝ }
-        ensures { λ r. ⌜ Holds r (metAt v (signsOf self) (signsOf other)) ⌝ }
+        requires { ⌜ FitsBlocks self × FitsBlocks other × (v < 12) ⌝ }
+        ensures { λ r. ⌜ Holds r (set (joined (signsOf self) (signsOf other)) v (bitAnd (getD (signsOf self) v 0) (getD (signsOf other) v 0))) ⌝ }
     {
         self.union(other).replaced(v, self.sign(v) & other.sign(v))
     }
 
     // Some sign is full.
     pub fn is_tautology(self, fulls: Clause) -> bool
-        requires { ⌜ Packed self × Packed fulls ⌝ }
+        requires { ⌜ FitsBlocks self × FitsBlocks fulls ⌝ }
         ensures { λ r. ⌜ ((ds : List ℕ) → FullSigns fulls ds → r ≡ tautology ds (signsOf self)) ⌝ }
     {
         if block_full(self.a, fulls.a) {
@@ -181,7 +182,7 @@ impl Clause {
 
     // The lowest variable present, 12 if there is none.
     pub fn lowest(self) -> u32
-        requires { ⌜ Packed self ⌝ }
+        requires { ⌜ FitsBlocks self ⌝ }
         ensures { λ r. ⌜ (r ≡ bucket (signsOf self)) × (r ≤ 12) ⌝ }
     {
         if self.a != 0 {
@@ -197,7 +198,7 @@ impl Clause {
     }
 
     pub fn equals(self, other: Clause) -> bool
-        requires { ⌜ Packed self × Packed other ⌝ }
+        requires { ⌜ FitsBlocks self × FitsBlocks other ⌝ }
         ensures { λ r. ⌜ r ≡ same (signsOf self) (signsOf other) ⌝ }
     {
         if self.a != other.a {
@@ -214,15 +215,15 @@ impl Clause {
 
     // At some variable other than v the union of two valid clauses is full. Both are present there, since neither sign alone is full.
     pub fn clashes(self, other: Clause, v: u32, fulls: Clause) -> bool
-        requires { ⌜ Packed self × Packed other × Packed fulls × (v < 12) ⌝ }
-        ensures { λ r. ⌜ ((ds : List ℕ) → FullSigns fulls ds → ValidClause ds (signsOf self) → ValidClause ds (signsOf other) → r ≡ clashing ds v (signsOf self) (signsOf other)) ⌝ }
+        requires { ⌜ FitsBlocks self × FitsBlocks other × FitsBlocks fulls × (v < 12) ⌝ }
+        ensures { λ r. ⌜ ((ds : List ℕ) → FullSigns fulls ds → ValidClause ds (signsOf self) → ValidClause ds (signsOf other) → r ≡ clashing ds (others v (signsOf self)) (others v (signsOf other))) ⌝ }
     {
         self.union(other).replaced(v, 0).is_tautology(fulls)
     }
 
     // Two valid clauses may be resolved on v.
     pub fn may_resolve(self, other: Clause, v: u32, fulls: Clause) -> bool
-        requires { ⌜ Packed self × Packed other × Packed fulls × (v < 12) ⌝ }
+        requires { ⌜ FitsBlocks self × FitsBlocks other × FitsBlocks fulls × (v < 12) ⌝ }
         ensures { λ r. ⌜ ((ds : List ℕ) → FullSigns fulls ds → ValidClause ds (signsOf self) → ValidClause ds (signsOf other) → r ≡ permitted ds v (signsOf self) (signsOf other)) ⌝ }
     {
         if nest(self.sign(v), other.sign(v)) {

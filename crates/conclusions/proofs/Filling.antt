@@ -12,7 +12,7 @@ use lib.ListN.{length, getD, set, take, drop, replicate, length-set, length-repl
 use lib.Seq.{getD-drop, getD-set-same, getD-set-other, ext-getD}
 use Rattle.wcsp.specs.Clause.{tautology, kept}
 use Rattle.clause.specs.declared.Clause.{Clause}
-use Rattle.clause.specs.Packed.{signsIn, signsOf, Packed, Holds, FullSigns}
+use Rattle.clause.specs.Packed.{signsIn, signsOf, FitsBlocks, Holds, FullSigns}
 use Rattle.clause.proofs.Signs12.{holds-blocks}
 use Rattle.conclusions.specs.Buffer.{clausesIn, PackedBuffer}
 
@@ -136,7 +136,7 @@ small-set (u ∷ b) (suc i) w h p (suc j) = small-set b i w h (λ n. p (suc n)) 
 packed-set : (b : List ℕ) (i w : ℕ) → w < 16777216 → PackedBuffer b → PackedBuffer (set b i w)
 packed-set b i w h p = record { long = length-set b i w ∙ p .long; blocks = small-set b i w h (p .blocks) }
 
-pub packed-stored : (b : List ℕ) (n : ℕ) (x : Clause) → Packed x → PackedBuffer b
+pub packed-stored : (b : List ℕ) (n : ℕ) (x : Clause) → FitsBlocks x → PackedBuffer b
     → PackedBuffer (stored b n (x .a) (x .b) (x .c) (x .d))
 packed-stored b n x q p =
     packed-set _ _ _ (q .d) (packed-set _ _ _ (q .c) (packed-set _ _ _ (q .b) (packed-set b n (x .a) (q .a) p)))

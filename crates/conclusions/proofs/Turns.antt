@@ -6,77 +6,70 @@ use native.Mathlib.Numerals.{add-one}
 use mathlib.Core.Path.{_≡_, refl, sym, ap, ap₂, _∙_}
 use mathlib.Core.Bool.{Bool, true, false}
 use mathlib.Core.List.{List, [], _∷_, _++_, map, append-nil, append-assoc}
-use lib.ListN.{length, getD, set, replicate}
-use lib.Seq.{getD-set-same, set-set}
+use lib.ListN.{length, getD, set, replicate, length-set}
+use lib.Seq.{getD-set-same, getD-set-other, set-set}
 use lib.Bits.{bitOr}
 use lib.Dec.{eqb}
 use borrow.Author.Tests.{eqb-true, eqb-false}
 use Rattle.wcsp.specs.Sign.{full, complement}
 use Rattle.wcsp.specs.Clause.{ValidClause, nil, cons, kept}
-use Rattle.wcsp.specs.Rule.{joined, excluding}
+use Rattle.wcsp.specs.Rule.{joined, others, excluding}
 use Rattle.wcsp.proofs.Signs.{full-at}
 use Rattle.wcsp.proofs.Lists.{along-length}
 use Rattle.wcsp.proofs.Adding.{kept-append}
 use Rattle.clause.specs.declared.Clause.{Clause}
-use Rattle.clause.specs.Packed.{signsOf, Packed, Holds, FullSigns}
+use Rattle.clause.specs.Packed.{signsOf, FitsBlocks, Holds, FullSigns}
 use Rattle.clause.proofs.Signs12.{signsOf-length}
 use Rattle.conclusions.specs.Buffer.{clausesIn, PackedBuffer, Below}
-use Rattle.conclusions.proofs.Excluding.{excludingFrom, from-start, from-end, from-pass, from-absent, from-present, joined-single}
+use Rattle.conclusions.proofs.Excluding.{excludingFrom, from-start, from-end, from-absent, from-present, joined-single}
 
 -- the buffer has n clauses and b variables are done, with the running clause r; k clauses were in the buffer B₀ before
 abbrev pub Filled : List ℕ → ℕ → Clause → Clause → Clause → ℕ → List ℕ → ℕ → ℕ → Clause → Type 0
 Filled B₀ k x y f v B n b r =
     (ds : List ℕ) → FullSigns f ds → ValidClause ds (signsOf x) → ValidClause ds (signsOf y)
-    → clausesIn n B ++ kept ds (excludingFrom ds v b (signsOf r) (signsOf y))
-    ≡ clausesIn k B₀ ++ kept ds (excluding ds v (signsOf x) (signsOf y))
+    → clausesIn n B ++ kept ds (excludingFrom ds b (signsOf r) (others v (signsOf y)))
+    ≡ clausesIn k B₀ ++ kept ds (excluding ds (signsOf x) (others v (signsOf y)))
 
 -- twelve sizes, since there are twelve signs
 sizes : {ds : List ℕ} (x : Clause) → ValidClause ds (signsOf x) → length ds ≡ 12
 sizes x p = along-length p ∙ signsOf-length x
 
+others-length : (v : ℕ) (y : Clause) → length (others v (signsOf y)) ≡ 12
+others-length v y = length-set (signsOf y) v 0 ∙ signsOf-length y
+
 module _ (B₀ : List ℕ) (k : ℕ) (x y f : Clause) (v : ℕ) where
   pub filled-start : Filled B₀ k x y f v B₀ k 0 x
-  filled-start ds g p q = ap (λ l. clausesIn k B₀ ++ kept ds l) (from-start ds v (signsOf x) (signsOf y))
+  filled-start ds g p q = ap (λ l. clausesIn k B₀ ++ kept ds l) (from-start ds (signsOf x) (others v (signsOf y)))
 
   module _ (B : List ℕ) (n b : ℕ) (r : Clause) (inv : Filled B₀ k x y f v B n b r) where
     pub filled-end : 12 ≤ b → (ds : List ℕ) → FullSigns f ds → ValidClause ds (signsOf x) → ValidClause ds (signsOf y)
-        → clausesIn n B ≡ clausesIn k B₀ ++ kept ds (excluding ds v (signsOf x) (signsOf y))
+        → clausesIn n B ≡ clausesIn k B₀ ++ kept ds (excluding ds (signsOf x) (others v (signsOf y)))
     unfolding kept
     filled-end h ds g p q =
         let l = sizes x p in
         sym (append-nil (clausesIn n B))
-        ∙ ap (λ l. clausesIn n B ++ kept ds l) (sym (from-end ds v b (signsOf r) (signsOf y) (omega arith)))
+        ∙ ap (λ l. clausesIn n B ++ kept ds l) (sym (from-end ds b (signsOf r) (others v (signsOf y)) (omega arith)))
         ∙ inv ds g p q
 
-    -- nothing is added and the running clause stays
-    stays : (ds : List ℕ) → FullSigns f ds → ValidClause ds (signsOf x) → ValidClause ds (signsOf y)
-        → excludingFrom ds v b (signsOf r) (signsOf y) ≡ excludingFrom ds v (b + 1) (signsOf r) (signsOf y)
-        → clausesIn n B ++ kept ds (excludingFrom ds v (b + 1) (signsOf r) (signsOf y))
-        ≡ clausesIn k B₀ ++ kept ds (excluding ds v (signsOf x) (signsOf y))
-    stays ds g p q e = ap (λ l. clausesIn n B ++ kept ds l) (sym e) ∙ inv ds g p q
-
-    at-v : b < 12 → b ≡ v → (ds : List ℕ) → length ds ≡ 12
-        → excludingFrom ds v b (signsOf r) (signsOf y) ≡ excludingFrom ds v (b + 1) (signsOf r) (signsOf y)
-    at-v h e ds l =
+    -- no literal at b
+    filled-none : b < 12 → getD (others v (signsOf y)) b 0 ≡ 0 → Filled B₀ k x y f v B n (b + 1) r
+    filled-none h e ds g p q =
+        let l = sizes x p in
         let m = signsOf-length r in
-        let o = signsOf-length y in
-        rw (← e, add-one) (from-pass ds (signsOf r) (signsOf y) b (omega arith) (omega arith) (omega arith))
+        let o = others-length v y in
+        let same : excludingFrom ds b (signsOf r) (others v (signsOf y)) ≡ excludingFrom ds (b + 1) (signsOf r) (others v (signsOf y))
+        = rw add-one (from-absent ds (signsOf r) (others v (signsOf y)) b (omega arith) (omega arith) (omega arith) e) in
+        ap (λ l. clausesIn n B ++ kept ds l) (sym same) ∙ inv ds g p q
 
     pub filled-pass : b < 12 → b ≡ v → Filled B₀ k x y f v B n (b + 1) r
-    filled-pass h e ds g p q = stays ds g p q (at-v h e ds (sizes x p))
+    filled-pass h e = filled-none h (rw e (getD-set-same (signsOf y) v 0 0 (omega (arith, signsOf-length y))))
 
     pub filled-absent : b < 12 → (s : ℕ) → s ≡ getD (signsOf y) b 0 → s ≡ 0 → Filled B₀ k x y f v B n (b + 1) r
-    filled-absent h s e z ds g p q = stays ds g p q (go (eqb b v) refl)
+    filled-absent h s e z = go (eqb b v) refl
       where
-        go : (t : Bool) → eqb b v ≡ t
-            → excludingFrom ds v b (signsOf r) (signsOf y) ≡ excludingFrom ds v (b + 1) (signsOf r) (signsOf y)
-        go true t = at-v h (eqb-true b v t) ds (sizes x p)
-        go false t =
-            let l = sizes x p in
-            let m = signsOf-length r in
-            let o = signsOf-length y in
-            rw add-one
-            (from-absent ds (signsOf r) (signsOf y) b (omega arith) (omega arith) (omega arith) v (eqb-false b v t) (sym e ∙ z))
+        go : (t : Bool) → eqb b v ≡ t → Filled B₀ k x y f v B n (b + 1) r
+        go true t = filled-pass h (eqb-true b v t)
+        go false t = filled-none h (getD-set-other (signsOf y) v b 0 0 (eqb-false b v t) ∙ sym e ∙ z)
 
     -- a literal of another variable: its clause is kept unless it is a tautology, and the literal joins the running clause
     module _ (s t : ℕ) (e l q : Clause) (h : b < 12) (zeros : Holds e (replicate 12 0))
@@ -110,7 +103,7 @@ module _ (B₀ : List ℕ) (k : ℕ) (x y f : Clause) (v : ℕ) where
           S = getD (signsOf r) b 0
 
           rest : List (List ℕ)
-          rest = excludingFrom ds v (suc b) (set (signsOf r) b (bitOr S s)) (signsOf y)
+          rest = excludingFrom ds (suc b) (set (signsOf r) b (bitOr S s)) (others v (signsOf y))
 
           wider : signsOf w ≡ set (signsOf r) b (bitOr S s)
           wider = next .signsAre ∙ ap (joined (signsOf r)) literal-signs ∙ with-single r s
@@ -123,13 +116,16 @@ module _ (B₀ : List ℕ) (k : ℕ) (x y f : Clause) (v : ℕ) where
               found .signsAre ∙ ap (joined (signsOf r)) other-signs ∙ with-single r (t - s)
               ∙ ap (λ a. set (signsOf r) b (bitOr S (a - s))) domain
 
-          turn : excludingFrom ds v b (signsOf r) (signsOf y) ≡ signsOf u ∷ rest
+          here : getD (others v (signsOf y)) b 0 ≡ s
+          here = getD-set-other (signsOf y) v b 0 0 o ∙ sym sign
+
+          turn : excludingFrom ds b (signsOf r) (others v (signsOf y)) ≡ signsOf u ∷ rest
           turn =
               let a = sizes x p in
               let c = signsOf-length r in
-              let i = signsOf-length y in
-              from-present ds (signsOf r) (signsOf y) b (omega arith) (omega arith) (omega arith) v o (λ z. nonzero (sign ∙ z))
-              ∙ rw (← sign, complemented)
+              let i = others-length v y in
+              from-present ds (signsOf r) (others v (signsOf y)) b (omega arith) (omega arith) (omega arith) (λ z. nonzero (sym here ∙ z))
+              ∙ rw (here, complemented)
 
 -- the literal's sign is no greater than the full sign
 pub literal-within : (y f e l : Clause) (b s t : ℕ) → b < 12 → Below y f → Holds e (replicate 12 0) → Holds l (set (signsOf e) b s)
@@ -155,12 +151,12 @@ below-full x f ds g p i = rw g (valid-below p i)
 pub record Turn (B₀ : List ℕ) (k : ℕ) (x y f : Clause) (v : ℕ) (B : List ℕ) (n b : ℕ) (r : Clause) : Type 0 where
   pub bound : b ≤ 12
   pub count : n ≤ k + b
-  pub packed : Packed r
+  pub packed : FitsBlocks r
   pub buffer : PackedBuffer B
   pub filled : Filled B₀ k x y f v B n b r
 
 module _ (B₀ : List ℕ) (k : ℕ) (x y f : Clause) (v : ℕ) where
-  pub turn-start : Packed x → PackedBuffer B₀ → Turn B₀ k x y f v B₀ k 0 x
+  pub turn-start : FitsBlocks x → PackedBuffer B₀ → Turn B₀ k x y f v B₀ k 0 x
   turn-start p q =
       record { bound = omega arith; count = omega arith; packed = p; buffer = q; filled = filled-start B₀ k x y f v }
 

@@ -1,4 +1,4 @@
--- A buffer of packed clauses, four blocks each, and the conclusions that a step adds: those that are no tautologies.
+-- Inner: a buffer of packed clauses, four blocks each, and the conclusions that a step adds: those that are no tautologies.
 use Prim.Native.Nat.{ℕ, zero, suc, _<_, _≤_}
 use mathlib.Core.Path.{_≡_}
 use mathlib.Core.List.{List, [], _∷_}

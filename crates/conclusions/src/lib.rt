@@ -4,8 +4,8 @@ ghost use mathlib.Core.List.{List, [], _∷_, _++_};
 ghost use Prim.Native.Nat.{ℕ, _+_, _<_, _≤_};
 ghost use lib.ListN.{getD};
 ghost use Rattle.wcsp.specs.Clause.{ValidClause, kept};
-ghost use Rattle.wcsp.specs.Rule.{excluding, conclusions};
-ghost use Rattle.clause.specs.Packed.{signsOf, Packed, Holds, FullSigns};
+ghost use Rattle.wcsp.specs.Rule.{others, excluding, conclusions};
+ghost use Rattle.clause.specs.Packed.{signsOf, FitsBlocks, Holds, FullSigns};
 ghost use Rattle.conclusions.specs.Buffer.{clausesIn, PackedBuffer, Below};
 use clause::Clause;
 
@@ -25,7 +25,7 @@ pub fn clause_at(buffer: &[u32; 104], m: usize) -> Clause
 
 // A conclusion behind the k that the buffer has, unless it is a tautology.
 fn keep(buffer: &mut [u32; 104], k: usize, x: Clause, fulls: Clause) -> usize
-    requires { ⌜ (k < 26) × Packed x × Packed fulls × PackedBuffer (now buffer) ⌝ }
+    requires { ⌜ (k < 26) × FitsBlocks x × FitsBlocks fulls × PackedBuffer (now buffer) ⌝ }
     ensures { λ r. ⌜ ((ds : List ℕ) → FullSigns fulls ds → clausesIn r (now (buffer .exit)) ≡ clausesIn k (now (buffer .entry)) ++ kept ds (signsOf x ∷ [])) × (r ≤ k + 1) × PackedBuffer (now (buffer .exit)) ⌝ }
 {
     if x.is_tautology(fulls) {
@@ -41,8 +41,8 @@ fn keep(buffer: &mut [u32; 104], k: usize, x: Clause, fulls: Clause) -> usize
 
 // For each literal of y but that of v: x, the literals of y before it, and it complemented.
 fn exclude(buffer: &mut [u32; 104], k: usize, x: Clause, y: Clause, v: u32, fulls: Clause) -> usize
-    requires { ⌜ (k ≤ 14) × Packed x × Packed y × Packed fulls × Below y fulls × (v < 12) × PackedBuffer (now buffer) ⌝ }
-    ensures { λ r. ⌜ ((ds : List ℕ) → FullSigns fulls ds → ValidClause ds (signsOf x) → ValidClause ds (signsOf y) → clausesIn r (now (buffer .exit)) ≡ clausesIn k (now (buffer .entry)) ++ kept ds (excluding ds v (signsOf x) (signsOf y))) × (r ≤ k + 12) × PackedBuffer (now (buffer .exit)) ⌝ }
+    requires { ⌜ (k ≤ 14) × FitsBlocks x × FitsBlocks y × FitsBlocks fulls × Below y fulls × (v < 12) × PackedBuffer (now buffer) ⌝ }
+    ensures { λ r. ⌜ ((ds : List ℕ) → FullSigns fulls ds → ValidClause ds (signsOf x) → ValidClause ds (signsOf y) → clausesIn r (now (buffer .exit)) ≡ clausesIn k (now (buffer .entry)) ++ kept ds (excluding ds (signsOf x) (others v (signsOf y)))) × (r ≤ k + 12) × PackedBuffer (now (buffer .exit)) ⌝ }
 {
     let mut running = x;
     let mut count = k;
@@ -66,7 +66,7 @@ fn exclude(buffer: &mut [u32; 104], k: usize, x: Clause, y: Clause, v: u32, full
 
 // Groups 1 to 4. The answer is how many are kept.
 pub fn conclude(buffer: &mut [u32; 104], x: Clause, y: Clause, v: u32, fulls: Clause) -> usize
-    requires { ⌜ Packed x × Packed y × Packed fulls × Below x fulls × Below y fulls × (v < 12) × PackedBuffer (now buffer) ⌝ }
+    requires { ⌜ FitsBlocks x × FitsBlocks y × FitsBlocks fulls × Below x fulls × Below y fulls × (v < 12) × PackedBuffer (now buffer) ⌝ }
     ensures { λ r. ⌜ ((ds : List ℕ) → FullSigns fulls ds → ValidClause ds (signsOf x) → ValidClause ds (signsOf y) → clausesIn r (now (buffer .exit)) ≡ kept ds (conclusions ds v (signsOf x) (signsOf y))) × (r ≤ 26) × PackedBuffer (now (buffer .exit)) ⌝ }
 {
     let met = keep(buffer, 0, x.met_at(y, v), fulls);

@@ -1,4 +1,4 @@
--- What the entries' words cost an assignment, word by word.
+-- Inner: what the entries' words cost an assignment, word by word.
 use Prim.Native.Nat.{ℕ, _+_}
 use mathlib.Core.Bool.{Bool, true, _&&_, cond}
 use mathlib.Core.List.{List, [], _∷_}

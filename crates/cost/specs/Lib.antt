@@ -1,3 +1,4 @@
 -- The cost call: what an assignment costs.
 pub mod Costing
 pub mod Calls
+pub mod Order

@@ -4,7 +4,7 @@ use native.Mathlib.Nat.{le-dest, lt-mul-div-succ, le-div-iff-mul-le, div-le-self
 use native.Mathlib.Omega.{arith}
 use mathlib.Core.Path.{_≡_, subst}
 use Rattle.distance.specs.Metres.{metres}
-use Rattle.distance.proofs.Largest.{metres-unique}
+use Rattle.distance.proofs.Largest.{metres-between}
 
 -- x is an estimate: positive, at most n, and at least the root of n
 pub record Estimate (n x : ℕ) : Type 0 where
@@ -46,7 +46,7 @@ square-at-most n x h k = le-div-iff-mul-le h .0 (omega arith)
 pub settled : (q x : ℕ) → Estimate (q / 10000) x → x ≤ (x + q / 10000 / x) / 2 → x ≡ metres q
 settled q x a h =
     let s : x * x ≤ q / 10000 = square-at-most (q / 10000) x (a .positive) h in
-    metres-unique q x (omega arith) (omega (arith, a .above))
+    metres-between q x (omega arith) (omega (arith, a .above))
 
 pub no-metre : (q : ℕ) → q / 10000 ≡ 0 → 0 ≡ metres q
-no-metre q h = metres-unique q 0 (omega arith) (omega arith)
+no-metre q h = metres-between q 0 (omega arith) (omega arith)

@@ -1,7 +1,7 @@
 // Whole metres between two points: the integer root, by falling estimates.
 ghost use mathlib.Core.Path.{_≡_};
 ghost use Prim.Native.Nat.{_≤_, _*_, _+_, _<_};
-ghost use Rattle.distance.specs.Metres.{metres, apart, metresBetween};
+ghost use Rattle.distance.specs.Metres.{metres, maxOffset, maxMetres, difference, metresBetween};
 
 // Whole metres of a squared distance in square centimetres. Each estimate is at least the root; the first that does not fall is the root.
 pub fn root(q: u64) -> u64
@@ -24,8 +24,8 @@ pub fn root(q: u64) -> u64
 
 // How far two coordinates lie from each other.
 fn gap(a: u32, b: u32) -> u64
-    requires { ⌜ (a ≤ 2000000) × (b ≤ 2000000) ⌝ }
-    ensures { λ r. ⌜ (r ≡ apart a b) × (r ≤ 2000000) ⌝ }
+    requires { ⌜ (a ≤ maxOffset) × (b ≤ maxOffset) ⌝ }
+    ensures { λ r. ⌜ (r ≡ difference a b) × (r ≤ maxOffset) ⌝ }
 {
     if a < b {
         return (b - a) as u64;
@@ -35,8 +35,8 @@ fn gap(a: u32, b: u32) -> u64
 
 // Whole metres between two points, their coordinates in centimetres counted from -1,000,000.
 pub fn between(e: u32, n: u32, e2: u32, n2: u32) -> u32
-    requires { ⌜ (e ≤ 2000000) × (n ≤ 2000000) × (e2 ≤ 2000000) × (n2 ≤ 2000000) ⌝ }
-    ensures { λ r. ⌜ (r ≡ metresBetween e n e2 n2) × (r ≤ 28284) ⌝ }
+    requires { ⌜ (e ≤ maxOffset) × (n ≤ maxOffset) × (e2 ≤ maxOffset) × (n2 ≤ maxOffset) ⌝ }
+    ensures { λ r. ⌜ (r ≡ metresBetween e n e2 n2) × (r ≤ maxMetres) ⌝ }
 {
     let east = gap(e, e2);
     let north = gap(n, n2);

@@ -1,18 +1,20 @@
 -- What `encode` answers, from the answers of its parts: one law for each way out.
 use Prim.Native.Nat.{ℕ, _+_, _*_, _<_, _≤_}
 use native.Mathlib.Omega.{arith}
-use mathlib.Core.Path.{_≡_, refl, sym, ap, ap₂, _∙_}
+use mathlib.Core.Path.{_≡_, sym, ap, ap₂, subst, _∙_}
 use mathlib.Core.Bool.{Bool, true, false}
 use mathlib.Core.List.{List, [], map}
 use lib.ListN.{length, set, take}
 use lib.Dec.{eqb, leb}
 use borrow.Author.Tests.{eq-eqb, lt-ltb, le-ltb, leb-true, leb-false}
 use Rattle.wcsp.specs.Sign.{full}
+use Rattle.wcsp.specs.Widening.{wideRows}
+use Rattle.wcsp.proofs.WideningRows.{length-wide}
 use Rattle.words.specs.Layout.{countWord}
 use Rattle.clause.specs.declared.Clause.{Clause}
 use Rattle.clause.specs.Packed.{signsOf, Holds}
 use Rattle.fields.specs.declared.Answer.{Answer}
-use Rattle.fields.specs.Padding.{padded}
+use Rattle.fields.specs.Padding.{padded, lacking}
 use Rattle.fields.specs.Answers.{refused, good}
 use Rattle.fields.specs.Entries.{EachSize}
 use Rattle.fields.proofs.Padding.{padded-length, sizes-padded}
@@ -24,21 +26,27 @@ use Rattle.rows.specs.Raw.{rowWidth, Left}
 use Rattle.table.specs.Layout.{capacity, tableWords}
 use Rattle.table.specs.Raws.{rawOf}
 use Rattle.table.proofs.Canonical.{room-rows, length-words}
+use Rattle.table.proofs.Own.{words-wide}
 use Rattle.table.proofs.Finishing.{laid-words, finished}
-use Rattle.encoding.specs.Calls.{encodedRows, encodeCall}
+use Rattle.encoding.specs.Calls.{EncodeReturned, encodedRows, encodeCall}
 use Rattle.encoding.specs.Coding.{AllProper, rowsTo, Encodable}
 use Rattle.encoding.proofs.Instances.{Known, known}
 
 -- the answer and the table are those of the call
 abbrev pub Answered : List ℕ → List ℕ → Answer → List ℕ → Type 0
-Answered ws t a t′ = (a ≡ encodeCall ws t .answer) × (t′ ≡ encodeCall ws t .table)
+Answered ws t a t′ = _≡_ {A = EncodeReturned} (record { answer = a; table = t′ }) (encodeCall ws t)
+
+-- the same with what a callee answered
+pub told : {a b : Answer} {t′ : List ℕ} {r : EncodeReturned} → a ≡ b → _≡_ {A = EncodeReturned} (record { answer = b; table = t′ }) r
+    → _≡_ {A = EncodeReturned} (record { answer = a; table = t′ }) r
+told {t′ = t′} e p = ap (λ x. record { answer = x; table = t′ }) e ∙ p
 
 module _ (ws t : List ℕ) (read : Validated) (r : read ≡ validateCall ws) where
   -- ---- 1 to 5
 
   pub encode-refused : (read .number ≡ 0 → ⊥) → Answered ws t (refused (read .number)) t
   unfolding encodeCall
-  encode-refused n = let (b, k) = bad-validated ws read r n in rw (b, k) (refl, refl)
+  encode-refused n = let (b, k) = bad-validated ws read r n in rw (b, k)
 
   module _ (z : read .number ≡ 0) where
     found : GoodValidated ws read
@@ -65,14 +73,17 @@ module _ (ws t : List ℕ) (read : Validated) (r : read ≡ validateCall ws) whe
 
     pub encode-short : length t < read .variables + 2 → Answered ws t (refused 10) t
     unfolding encodeCall
-    encode-short h = rw (taken, variables-are, lt-ltb (length t) (read .variables + 2) h) (refl, refl)
+    encode-short h = rw (taken, variables-are, lt-ltb (length t) (read .variables + 2) h)
 
     module _ (long : read .variables + 2 ≤ length t) (x : Clause) (f : Holds x (map full (read .sizes))) where
       signs-are : signsOf x ≡ map full (padded (sizesOf ws))
       signs-are = f .signsAre ∙ ap (map full) sizes-are
 
-      rows-are : rowsTo (signsOf x) (read .variables + 1) (length ws) ws ≡ encodedRows ws
+      rows-are : rowsTo (signsOf x) (read .variables + 1) (length ws) ws ≡ wideRows (lacking (sizesOf ws)) (encodedRows ws)
       rows-are = rw signs-are (instance-known .rows)
+
+      rows-long : length (rowsTo (signsOf x) (read .variables + 1) (length ws) ws) ≡ length (encodedRows ws)
+      rows-long = ap length rows-are ∙ length-wide (lacking (sizesOf ws)) (encodedRows ws)
 
       pub words-proper : AllProper (signsOf x) (read .variables + 1) ws
       words-proper = rw signs-are (instance-known .proper)
@@ -80,7 +91,7 @@ module _ (ws t : List ℕ) (read : Validated) (r : read ≡ validateCall ws) whe
       module _ (room : ℕ) (m : room ≡ capacity (length t) (read .variables)) (b : Bool)
           (g : b ≡ leb (length (rowsTo (signsOf x) (read .variables + 1) (length ws) ws)) room) where
         fits-as : leb (length (encodedRows ws)) room ≡ b
-        fits-as = ap (λ rs. leb (length rs) room) (sym rows-are) ∙ sym g
+        fits-as = ap (λ n. leb n room) (sym rows-long) ∙ sym g
 
         -- ---- 12
 
@@ -89,7 +100,6 @@ module _ (ws t : List ℕ) (read : Validated) (r : read ≡ validateCall ws) whe
         encode-full h =
             let l : capacity (length t) (read .variables) < length (encodedRows ws) = omega (arith, leb-false (length (encodedRows ws)) room (fits-as ∙ h)) in
             rw (taken, variables-are, le-ltb (length t) (read .variables + 2) long, lt-ltb (capacity (length t) (read .variables)) (length (encodedRows ws)) l)
-            (refl, refl)
 
         -- ---- the encoding
 
@@ -117,14 +127,14 @@ module _ (ws t : List ℕ) (read : Validated) (r : read ≡ validateCall ws) whe
                 within = k .within;
                 costs = k .costs;
                 laid = rw variables-are at (laid-words t₁ (sizesOf ws) [] words-own (omega (arith, variables-are, cleared-long)));
-                room = rw rows-are (omega (arith, cleared-long, rows-fit));
+                room = rw rows-long (omega (arith, cleared-long, rows-fit));
               }
 
           module _ (t₂ : List ℕ) (count : ℕ)
               (w : Left t₁ (read .variables + 2) t₂ (map rawOf (rowsTo (signsOf x) (read .variables + 1) (length ws) ws))
               × (count ≡ length (rowsTo (signsOf x) (read .variables + 1) (length ws) ws))) where
             counted : count ≡ length (encodedRows ws)
-            counted = w .1 ∙ ap length rows-are
+            counted = w .1 ∙ rows-long
 
             pub count-small : count ≤ room
             count-small = omega (arith, counted, fits)
@@ -132,13 +142,16 @@ module _ (ws t : List ℕ) (read : Validated) (r : read ≡ validateCall ws) whe
             pub written-long : length t₂ ≡ length t
             written-long = w .0 .long ∙ cleared-long
 
-            left-encoded : Left t₁ (length (sizesOf ws) + 2) t₂ (map rawOf (encodedRows ws))
-            left-encoded = rw (variables-are, ← rows-are) (w .0)
+            left-encoded : Left t₁ (length (sizesOf ws) + 2) t₂ (map rawOf (wideRows (lacking (sizesOf ws)) (encodedRows ws)))
+            left-encoded =
+                subst (λ n. Left t₁ (n + 2) t₂ (map rawOf (wideRows (lacking (sizesOf ws)) (encodedRows ws)))) (sym variables-are) (rw rows-are at (w .0))
 
             table-done : (v : ℕ) → v ≡ countWord count → set t₂ (read .variables + 1) v ≡ tableWords (length t) (sizesOf ws) (encodedRows ws)
             table-done v e =
-                ap₂ (λ i u. set t₂ (i + 1) u) (sym variables-are) (e ∙ ap countWord counted)
-                ∙ finished t₁ t₂ (sizesOf ws) [] (encodedRows ws) words-own left-encoded
+                let k = lacking (sizesOf ws) in
+                ap₂ (λ i u. set t₂ (i + 1) u) (sym variables-are) (e ∙ ap countWord (counted ∙ sym (length-wide k (encodedRows ws))))
+                ∙ finished t₁ t₂ (sizesOf ws) [] (wideRows k (encodedRows ws)) words-own left-encoded
+                ∙ words-wide (length t₁) k (sizesOf ws) (encodedRows ws)
                 ∙ ap (λ n. tableWords n (sizesOf ws) (encodedRows ws)) cleared-long
 
             pub encode-done : (v : ℕ) → v ≡ countWord count → Answered ws t (good count) (set t₂ (read .variables + 1) v)
@@ -146,4 +159,4 @@ module _ (ws t : List ℕ) (read : Validated) (r : read ≡ validateCall ws) whe
             encode-done v e =
                 let l : length (encodedRows ws) ≤ capacity (length t) (read .variables) = omega (arith, fits) in
                 rw (taken, variables-are, le-ltb (length t) (read .variables + 2) long, le-ltb (capacity (length t) (read .variables)) (length (encodedRows ws)) l)
-                (ap good counted, table-done v e)
+                (ap₂ (λ n u. record { answer = good n; table = u }) counted (table-done v e))

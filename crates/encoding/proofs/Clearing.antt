@@ -10,7 +10,7 @@ use Rattle.wcsp.specs.Sign.{full}
 use Rattle.words.specs.Layout.{sizeWord, countWord}
 use Rattle.fields.specs.Front.{frontWords}
 use Rattle.clause.specs.declared.Clause.{Clause}
-use Rattle.clause.specs.Packed.{signsOf, Packed, Holds}
+use Rattle.clause.specs.Packed.{signsOf, FitsBlocks, Holds}
 use Rattle.rows.specs.Form.{flatIn}
 use Rattle.rows.specs.Raw.{rowWidth}
 use Rattle.table.specs.Layout.{rowsAt, tableWordsIn, tableWords}
@@ -98,7 +98,7 @@ module _ (t₀ t₁ t₂ ds : List ℕ) (n : ℕ) (few : length ds ≡ n) (room 
 -- the first i signs are full, the others 0
 pub record Filled (sizes : List ℕ) (fulls : Clause) (i : ℕ) : Type 0 where
   pub upto : i ≤ 12
-  pub packed : Packed fulls
+  pub packed : FitsBlocks fulls
   pub is : signsOf fulls ≡ take i (map full sizes) ++ replicate (12 - i) 0
 
 filled-more : (fs : List ℕ) (i : ℕ) → length fs ≡ 12 → i < 12

@@ -11,16 +11,18 @@ use lib.Dec.{eqb, leb, ltb}
 use borrow.Author.Tests.{eq-eqb, leb-true, leb-false, ltb-true}
 use Rattle.wcsp.specs.Sign.{full}
 use Rattle.wcsp.specs.Entry.{Entry, encoded}
+use Rattle.wcsp.specs.Widening.{wideRows}
 use Rattle.wcsp.proofs.Signs.{full-at, single-le-full}
+use Rattle.wcsp.proofs.WideningTables.{wideEncoded}
 use Rattle.words.specs.Layout.{kindOf, payloadOf, variableIn, valueIn}
 use Rattle.fields.specs.Limits.{maxCost, maxEntries}
 use Rattle.fields.specs.Front.{goodSizes}
 use Rattle.fields.specs.Entries.{Each, EachSize, nilEach, consEach, entriesFrom}
-use Rattle.fields.specs.Padding.{padded}
+use Rattle.fields.specs.Padding.{padded, lacking}
 use Rattle.fields.proofs.Fronts.{good-long}
 use Rattle.fields.proofs.Sizes.{each-positive}
 use Rattle.fields.proofs.Padding.{padded-length, sizes-at, sizes-padded}
-use Rattle.input.specs.Instance.{goes, stops, scanBinding, scanCost, scanWord, resume, entriesFault, instanceFault, sizesOf}
+use Rattle.input.specs.Instance.{goes, stops, scanBinding, scanCost, scanWord, resume, entriesFault, instanceFault, sizesOf, entriesOf}
 use Rattle.input.proofs.Validating.{headed-bounds, sizes-number, entries-are, instance-apart}
 use Rattle.input.proofs.Acceptance.{instance-headed, accepted-instance, passed}
 use Rattle.rows.specs.Raw.{maxWeight}
@@ -109,10 +111,10 @@ pub record Known (ws : List ℕ) (n : ℕ) : Type 0 where
   pub within : n + 1 ≤ length ws
   pub proper : AllProper (map full (padded (sizesOf ws))) (n + 1) ws
   pub costs : costsIn (drop (n + 1) ws) ≤ maxWeight
-  pub rows : rowsTo (map full (padded (sizesOf ws))) (n + 1) (length ws) ws ≡ encodedRows ws
+  pub rows : rowsTo (map full (padded (sizesOf ws))) (n + 1) (length ws) ws ≡ wideRows (lacking (sizesOf ws)) (encodedRows ws)
 
 pub known : (ws : List ℕ) → instanceFault ws ≡ 0 → Known ws (length (sizesOf ws))
-unfolding encoded
+unfolding encoded padded
 known ws e =
     let (n, h) = instance-headed ws e in
     let b = headed-bounds ws n h in
@@ -143,7 +145,8 @@ known ws e =
       rows =
           ap (λ c. c .rows) (coded-whole (map full (padded (sizesOf ws))) (n + 1) ws)
           ∙ coded-encoded (sizesOf ws) (padded (sizesOf ws)) (padded-length (sizesOf ws) few) (each-positive (sizes-padded s)) (padded-at (sizesOf ws)) (drop (n + 1) ws) (made .wellFormed)
-          ∙ ap (λ q. encoded (padded (sizesOf ws)) q) (sym es);
+          ∙ ap (λ q. encoded (padded (sizesOf ws)) q) (sym es)
+          ∙ wideEncoded (lacking (sizesOf ws)) (sizesOf ws) (entriesOf ws) (acc .entries .wellFormed);
     })
   where
     behind : (ws : List ℕ) (at k : ℕ) → at ≤ k → k < length ws → k - at < length (drop at ws)

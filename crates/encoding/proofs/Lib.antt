@@ -7,3 +7,4 @@ pub mod Clearing
 pub mod Looking
 pub mod Writing
 pub mod Answering
+pub mod Order

@@ -19,7 +19,7 @@ use Rattle.words.proofs.Inverse.{binding-kind, cost-kind}
 use Rattle.fields.specs.Limits.{maxVariables, maxValues}
 use Rattle.fields.specs.Entries.{costOf}
 use Rattle.clause.specs.declared.Clause.{Clause}
-use Rattle.clause.specs.Packed.{signsOf, Packed, Holds}
+use Rattle.clause.specs.Packed.{signsOf, FitsBlocks, Holds}
 use Rattle.table.specs.Valid.{hasSigns}
 use Rattle.encoding.specs.Coding.{Proper, AllProper, positives, signsAfter, grown, Coded, nothingCoded, codedAfter, codedTo, rowsTo}
 use Rattle.encoding.proofs.Coding.{coded-start, coded-next, coded-rest, coded-whole, length-grown, has-grown, rows-few, has-stays}
@@ -49,7 +49,7 @@ module _ (x r : Clause) (fs : List ℕ) (w : ℕ) where
       let n : kindOf w ≡ 3 → ⊥ = λ (z : kindOf w ≡ 3). omega arith in
       rw (ne-eqb (kindOf w) 3 n, eq-eqb (kindOf w) 4 k) h
 
-pub other-signs : (x : Clause) (fs : List ℕ) (w : ℕ) → Packed x → (eqb (kindOf w) 3 ≡ false) × (eqb (kindOf w) 4 ≡ false)
+pub other-signs : (x : Clause) (fs : List ℕ) (w : ℕ) → FitsBlocks x → (eqb (kindOf w) 3 ≡ false) × (eqb (kindOf w) 4 ≡ false)
     → Holds x (signsAfter fs (signsOf x) w)
 unfolding signsAfter
 other-signs x fs w p (a, b) = rw (a, b) (record { packed = p; signsAre = refl })

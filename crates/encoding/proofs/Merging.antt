@@ -13,7 +13,7 @@ use Rattle.wcsp.specs.Resolve.{noRow}
 use Rattle.wcsp.proofs.Lists.{same-eq, same-sym}
 use Rattle.wcsp.proofs.Adding.{rowOf}
 use Rattle.clause.specs.declared.Clause.{Clause}
-use Rattle.clause.specs.Packed.{signsOf, Packed}
+use Rattle.clause.specs.Packed.{signsOf, FitsBlocks}
 use Rattle.rows.specs.Adding.{addedAt, added}
 use Rattle.rows.specs.declared.Found.{Found}
 use Rattle.rows.specs.declared.Found.the-variants.{At, Missing}
@@ -131,7 +131,7 @@ merge-first u c (suc k) (consCarried {r = r} {rs = rs} h t) f =
     rw (f .before 0 (omega arith)) (ap (λ l. rawOf r ∷ l) (merge-first u c k t (first-below f)))
 
 -- adding to the raw rows is adding to the rows
-pub added-grown : (rs : List Row) (x : Clause) (u : ℕ) → AllCarried rs → Packed x → added (map rawOf rs) x u ≡ map rawOf (grown u (signsOf x) rs)
+pub added-grown : (rs : List Row) (x : Clause) (u : ℕ) → AllCarried rs → FitsBlocks x → added (map rawOf rs) x u ≡ map rawOf (grown u (signsOf x) rs)
 unfolding added addedAt grown
 added-grown rs x u h p = go (eqb u 0) (findFrom (rawRow x 0) 0 (map rawOf rs)) refl
   where

@@ -7,23 +7,22 @@ use lib.Dec.{eqb, ltb}
 use Rattle.wcsp.specs.Row.{Row}
 use Rattle.wcsp.specs.Entry.{encoded}
 use Rattle.fields.specs.declared.Answer.{Answer}
-use Rattle.fields.specs.Padding.{padded}
 use Rattle.fields.specs.Answers.{refused, good}
 use Rattle.input.specs.Instance.{instanceFault, sizesOf, entriesOf}
 use Rattle.table.specs.Layout.{rowsAt, capacity, tableWords}
 
 -- an answer and the table as the call returns
-pub record Returned : Type 0 where
+pub record EncodeReturned : Type 0 where
   pub answer : Answer
   pub table : List ℕ
 
--- the rows of an instance's encoding, over twelve variables
+-- the rows of an instance's encoding
 abbrev pub encodedRows : List ℕ → List Row
-encodedRows inst = encoded (padded (sizesOf inst)) (entriesOf inst)
+encodedRows inst = encoded (sizesOf inst) (entriesOf inst)
 
 -- encode: 1 to 5, 10 for a slice shorter than head, sizes and row count, 12; else the whole slice is the table of the encoding,
 -- and the answer the number of its rows
-unfoldable pub encodeCall : List ℕ → List ℕ → Returned
+unfoldable pub encodeCall : List ℕ → List ℕ → EncodeReturned
 encodeCall inst t =
     let f = instanceFault inst in
     let ds = sizesOf inst in

@@ -1,4 +1,4 @@
--- The encoding word by word: what an entry word does to the signs of the open entry and to the rows so far. This serves inner contracts alone.
+-- Inner: the encoding word by word, in twelve signs: what an entry word does to the signs of the open entry and to the rows so far.
 use Prim.Native.Nat.{ℕ, _+_, _-_, _*_, _^_, _<_, _≤_}
 use mathlib.Core.Path.{_≡_}
 use mathlib.Core.Bool.{cond}

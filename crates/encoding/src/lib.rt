@@ -8,7 +8,7 @@ ghost use lib.Dec.{eqb, leb};
 ghost use Rattle.wcsp.specs.Sign.{full};
 ghost use Rattle.wcsp.specs.Clause.{same};
 ghost use Rattle.fields.specs.Entries.{EachSize, costOf};
-ghost use Rattle.clause.specs.Packed.{signsOf, Packed, Holds};
+ghost use Rattle.clause.specs.Packed.{signsOf, FitsBlocks, Holds};
 ghost use Rattle.rows.specs.Raw.{Left};
 ghost use Rattle.table.specs.Layout.{tableWords};
 ghost use Rattle.table.specs.Valid.{hasSigns};
@@ -36,7 +36,7 @@ fn full_signs(sizes: &[u8; 12]) -> Clause
 
 // The signs of the open entry behind a word: a binding leaves the named value out, a cost word ends the entry.
 fn signs_after(pending: Clause, w: u32, fulls: Clause) -> Clause
-    requires { ⌜ Packed pending × Packed fulls × Proper (signsOf fulls) w ⌝ }
+    requires { ⌜ FitsBlocks pending × FitsBlocks fulls × Proper (signsOf fulls) w ⌝ }
     ensures { λ r. ⌜ Holds r (signsAfter (signsOf fulls) (signsOf pending) w) ⌝ }
 {
     let word = words::read(w);
@@ -68,7 +68,7 @@ fn positive(instance: &[u32], at: usize) -> usize
 
 // The word ends an entry of cost above 0 whose signs are this clause's.
 fn adds(pending: Clause, w: u32, clause: Clause) -> bool
-    requires { ⌜ Packed pending × Packed clause ⌝ }
+    requires { ⌜ FitsBlocks pending × FitsBlocks clause ⌝ }
     ensures { λ r. ⌜ r ≡ (not (eqb (costOf w) 0) && same (signsOf pending) (signsOf clause)) ⌝ }
 {
     if fields::cost_of(w) == 0 {
@@ -79,7 +79,7 @@ fn adds(pending: Clause, w: u32, clause: Clause) -> bool
 
 // An entry of cost above 0 between two indices has this clause.
 fn seen(instance: &[u32], at: usize, end: usize, fulls: Clause, clause: Clause) -> bool
-    requires { ⌜ (at ≤ end) × (end ≤ length (now instance)) × Packed fulls × Packed clause × AllProper (signsOf fulls) at (now instance) ⌝ }
+    requires { ⌜ (at ≤ end) × (end ≤ length (now instance)) × FitsBlocks fulls × FitsBlocks clause × AllProper (signsOf fulls) at (now instance) ⌝ }
     ensures { λ r. ⌜ r ≡ hasSigns (signsOf clause) (rowsTo (signsOf fulls) at end (now (instance .entry))) ⌝ }
 {
     let mut pending = Clause::empty();
@@ -97,7 +97,7 @@ fn seen(instance: &[u32], at: usize, end: usize, fulls: Clause, clause: Clause) 
 
 // How many rows the word at an index adds: one if it ends an entry of cost above 0 whose clause no earlier entry has.
 fn fresh(instance: &[u32], at: usize, end: usize, fulls: Clause, pending: Clause, w: u32) -> usize
-    requires { ⌜ (at ≤ end) × (end ≤ length (now instance)) × Packed fulls × Packed pending × AllProper (signsOf fulls) at (now instance) ⌝ }
+    requires { ⌜ (at ≤ end) × (end ≤ length (now instance)) × FitsBlocks fulls × FitsBlocks pending × AllProper (signsOf fulls) at (now instance) ⌝ }
     ensures { λ r. ⌜ (r ≡ cond (eqb (costOf w) 0) 0 (cond (hasSigns (signsOf pending) (rowsTo (signsOf fulls) at end (now (instance .entry)))) 0 1)) × (r ≤ 1) ⌝ }
 {
     if fields::cost_of(w) == 0 {
@@ -111,7 +111,7 @@ fn fresh(instance: &[u32], at: usize, end: usize, fulls: Clause, pending: Clause
 
 // The number of rows of the encoding, counted without writing.
 fn distinct(instance: &[u32], at: usize, fulls: Clause) -> usize
-    requires { ⌜ (at ≤ length (now instance)) × Packed fulls × AllProper (signsOf fulls) at (now instance) ⌝ }
+    requires { ⌜ (at ≤ length (now instance)) × FitsBlocks fulls × AllProper (signsOf fulls) at (now instance) ⌝ }
     ensures { λ r. ⌜ r ≡ length (rowsTo (signsOf fulls) at (length (now (instance .entry))) (now (instance .entry))) ⌝ }
 {
     let mut pending = Clause::empty();
@@ -128,7 +128,7 @@ fn distinct(instance: &[u32], at: usize, fulls: Clause) -> usize
 
 // The rows of the encoding are at most `room`. They are counted only where the words of cost above 0 are more than that.
 fn has_room(instance: &[u32], at: usize, fulls: Clause, room: usize) -> bool
-    requires { ⌜ (at ≤ length (now instance)) × Packed fulls × AllProper (signsOf fulls) at (now instance) ⌝ }
+    requires { ⌜ (at ≤ length (now instance)) × FitsBlocks fulls × AllProper (signsOf fulls) at (now instance) ⌝ }
     ensures { λ r. ⌜ r ≡ leb (length (rowsTo (signsOf fulls) at (length (now (instance .entry))) (now (instance .entry)))) room ⌝ }
 {
     if positive(instance, at) <= room {
@@ -161,8 +161,8 @@ fn clear(t: &mut [u32], n: usize, sizes: &[u8; 12])
 
 // The rows of the entries from an index on, in a table without rows. Answers their number.
 fn encode_entries(instance: &[u32], at: usize, t: &mut [u32], base: usize, fulls: Clause) -> usize
-    requires { ⌜ Packed fulls × Encodable (signsOf fulls) at (now instance) (now t) base ⌝ }
-    ensures { λ r. ⌜ Left (now (t .entry)) base (now (t .exit)) (map rawOf (rowsTo (signsOf fulls) at (length (now (instance .entry))) (now (instance .entry)))) × (r ≡ length (rowsTo (signsOf fulls) at (length (now (instance .entry))) (now (instance .entry)))) ⌝ }
+    requires { ⌜ FitsBlocks fulls × Encodable (signsOf fulls) at (now instance) (now t) base ⌝ }
+    ensures { λ r. ⌜ (let rs = rowsTo (signsOf fulls) at (length (now (instance .entry))) (now (instance .entry)) in Left (now (t .entry)) base (now (t .exit)) (map rawOf rs) × (r ≡ length rs)) ⌝ }
 {
     let mut pending = Clause::empty();
     let mut count: usize = 0;
@@ -178,33 +178,24 @@ fn encode_entries(instance: &[u32], at: usize, t: &mut [u32], base: usize, fulls
 
 // Encode: 1 to 5, 10, 12; else the whole slice is the table of the encoding.
 pub fn encode(instance: &[u32], t: &mut [u32]) -> Answer
-    ensures { λ r. ⌜ (r ≡ encodeCall (now (instance .entry)) (now (t .entry)) .answer) × (now (t .exit) ≡ encodeCall (now (instance .entry)) (now (t .entry)) .table) ⌝ }
+    ensures { λ r. ⌜ record { answer = r; table = now (t .exit) } ≡ encodeCall (now (instance .entry)) (now (t .entry)) ⌝ }
 {
     let read = input::validate(instance);
     let number = read.number;
     if number != 0 {
-        return Answer { number, value: 0 };
+        return fields::refusal(number);
     }
     let n = read.variables as usize;
     if t.len() < n + 2 {
-        return Answer {
-            number: 10,
-            value: 0,
-        };
+        return fields::refusal(10);
     }
     let sizes = read.sizes;
     let fulls = full_signs(&sizes);
     if !has_room(instance, n + 1, fulls, table::room(t.len(), n)) {
-        return Answer {
-            number: 12,
-            value: 0,
-        };
+        return fields::refusal(12);
     }
     clear(t, n, &sizes);
     let count = encode_entries(instance, n + 1, t, n + 2, fulls);
     t[n + 1] = words::count(count as u32);
-    Answer {
-        number: 0,
-        value: count as u64,
-    }
+    fields::success(count as u64)
 }

@@ -4,7 +4,6 @@ use native.Mathlib.Omega.{arith}
 use native.Mathlib.Numerals.{add-one}
 use mathlib.Core.Path.{_≡_, refl, sym, ap, _∙_}
 use mathlib.Core.Bool.{Bool, true, false, _&&_, false≢true}
-use mathlib.Core.Logic.{_↔_}
 use mathlib.Core.List.{List, [], _∷_}
 use lib.ListN.{length, getD, take, drop, drop-of-length-le}
 use lib.Seq.{drop-cons, length-take-le, getD-take}
@@ -28,9 +27,6 @@ pub assignment-of : {ds p : List ℕ} → InRange ds p → isAssignment ds p ≡
 unfolding isAssignment
 assignment-of nil = refl
 assignment-of (cons {a = d} {b = v} h r) = rw (lt-ltb v d h) (assignment-of r)
-
-pub assignment-iff : (ds p : List ℕ) → (isAssignment ds p ≡ true) ↔ InRange ds p
-assignment-iff ds p = (in-range-of ds p, λ r. assignment-of r)
 
 -- ---- value by value
 

@@ -5,3 +5,4 @@ pub mod Assigning
 pub mod Padding
 pub mod Costs
 pub mod Faults
+pub mod Order

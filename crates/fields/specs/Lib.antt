@@ -5,3 +5,4 @@ pub mod Entries
 pub mod Assignment
 pub mod Padding
 pub mod Answers
+pub mod Order

@@ -9,7 +9,7 @@ use lib.Seq.{drop-cons}
 use borrow.Author.Tests.{not-true}
 use Rattle.wcsp.specs.Clause.{bucket}
 use Rattle.wcsp.specs.Row.{Row}
-use Rattle.wcsp.specs.Rule.{clashing, nested, permitted}
+use Rattle.wcsp.specs.Rule.{others, clashing, nested, permitted}
 use Rattle.wcsp.specs.Resolve.{noRow, candidate, partner, pairIn}
 use Rattle.wcsp.proofs.Lists.{and-left, and-right}
 use Rattle.wcsp.proofs.PairSearch.{signsAt, partner-here, partner-later, pairIn-here, pairIn-later}
@@ -36,12 +36,12 @@ module _ (ds : List ℕ) (s : ℕ) (x y : List ℕ) where
   unfolding permitted
   nested-signs n = not-goes (λ e. false≢true (sym (not-true _ (and-left _ _ (candidate-goes ds s x y e .may))) ∙ n))
 
-  pub clashing-signs : clashing ds s x y ≡ true → candidate ds s x y ≡ false
+  pub clashing-signs : clashing ds (others s x) (others s y) ≡ true → candidate ds s x y ≡ false
   unfolding permitted
   clashing-signs n = not-goes
       (λ e. false≢true (sym (not-true _ (and-right (not (nested (getD x s 0) (getD y s 0))) _ (candidate-goes ds s x y e .may))) ∙ n))
 
-  pub goes : bucket x ≡ s → bucket y ≡ s → nested (getD x s 0) (getD y s 0) ≡ false → clashing ds s x y ≡ false → candidate ds s x y ≡ true
+  pub goes : bucket x ≡ s → bucket y ≡ s → nested (getD x s 0) (getD y s 0) ≡ false → clashing ds (others s x) (others s y) ≡ false → candidate ds s x y ≡ true
   unfolding permitted
   goes p q n c = goes-candidate ds s x y (record { firstIn = p; secondIn = q; may = rw (n, c) })
 

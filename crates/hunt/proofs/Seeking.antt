@@ -9,7 +9,7 @@ use lib.ListN.{length, getD, drop}
 use borrow.Author.Tests.{not-true, not-false}
 use Rattle.wcsp.specs.Clause.{ValidClause, bucket}
 use Rattle.wcsp.specs.Row.{ValidRows}
-use Rattle.wcsp.specs.Rule.{clashing, nested}
+use Rattle.wcsp.specs.Rule.{others, clashing, nested}
 use Rattle.wcsp.specs.Resolve.{candidate, partner}
 use Rattle.clause.specs.declared.Clause.{Clause}
 use Rattle.clause.specs.Packed.{signsOf, FullSigns}
@@ -57,9 +57,9 @@ module _ (t : List ℕ) (base count : ℕ) (x : Clause) (v : ℕ) (fulls : Claus
 
         -- what clashes answers of row j
         module _ (c : Bool)
-            (a : (ds : List ℕ) → FullSigns fulls ds → ValidClause ds (signsOf x) → ValidClause ds (signsOf y) → c ≡ clashing ds v (signsOf x) (signsOf y)) where
-          clashes : Over (λ ds. clashing ds v (signsOf x) (signsOf at-j) ≡ c)
-          clashes ds f r g k = sym (a ds f g (valid-read t base count j h y i ds r) ∙ ap (λ c. clashing ds v (signsOf x) (signsOf c)) i)
+            (a : (ds : List ℕ) → FullSigns fulls ds → ValidClause ds (signsOf x) → ValidClause ds (signsOf y) → c ≡ clashing ds (others v (signsOf x)) (others v (signsOf y))) where
+          clashes : Over (λ ds. clashing ds (others v (signsOf x)) (others v (signsOf at-j)) ≡ c)
+          clashes ds f r g k = sym (a ds f g (valid-read t base count j h y i ds r) ∙ ap (λ c. clashing ds (others v (signsOf x)) (others v (signsOf c))) i)
 
           pub clash-passed : not c ≡ false → Sought from (j + 1)
           clash-passed o = passed (λ ds f r g k. clashing-signs ds v (signsOf x) (signsOf at-j) (clashes ds f r g k ∙ not-false c o))

@@ -1,4 +1,4 @@
--- The answers of a hunt, and what it may rely on: buckets that are settled, and rows that go with none.
+-- Inner: the answers of a hunt, and what it may rely on: buckets that are settled, and rows that go with none.
 use Prim.Native.Nat.{ℕ, _<_, _≤_}
 use mathlib.Core.Path.{_≡_}
 use mathlib.Core.Bool.{false}

@@ -6,7 +6,7 @@ ghost use lib.ListN.{length, getD, drop};
 ghost use Rattle.wcsp.specs.Clause.{ValidClause, bucket};
 ghost use Rattle.wcsp.specs.Row.{ValidRows};
 ghost use Rattle.wcsp.specs.Resolve.{partner, pairIn, nextPair};
-ghost use Rattle.clause.specs.Packed.{signsOf, Packed, FullSigns};
+ghost use Rattle.clause.specs.Packed.{signsOf, FitsBlocks, FullSigns};
 ghost use Rattle.rows.specs.Raw.{rowWidth, rawAt, clauseIn};
 ghost use Rattle.table.specs.Meaning.{rowsFrom};
 ghost use Rattle.hunt.specs.Hunt.{foundOf, huntedOf, Cleared, Settled};
@@ -38,8 +38,8 @@ fn seek(
     from: usize,
     fulls: Clause,
 ) -> Found
-    requires { ⌜ (base + rowWidth * count ≤ length (now t)) × Packed x × Packed fulls × (v < 12) ⌝ }
-    ensures { λ r. ⌜ ((ds : List ℕ) → FullSigns fulls ds → ValidRows ds (rowsFrom count (drop base (now (t .entry)))) → ValidClause ds (signsOf x) → bucket (signsOf x) ≡ v → r ≡ foundOf (partner ds v (signsOf x) from (drop from (rowsFrom count (drop base (now (t .entry))))))) ⌝ }
+    requires { ⌜ (base + rowWidth * count ≤ length (now t)) × FitsBlocks x × FitsBlocks fulls × (v < 12) ⌝ }
+    ensures { λ r. ⌜ (let rs = rowsFrom count (drop base (now (t .entry))) in (ds : List ℕ) → FullSigns fulls ds → ValidRows ds rs → ValidClause ds (signsOf x) → bucket (signsOf x) ≡ v → r ≡ foundOf (partner ds v (signsOf x) from (drop from rs))) ⌝ }
 {
     let sign = x.sign(v);
     let mut j = from;
@@ -67,8 +67,8 @@ fn pair_in(
     from: usize,
     fulls: Clause,
 ) -> Hunted
-    requires { ⌜ (base + rowWidth * count ≤ length (now t)) × Packed fulls × (v < 12) ⌝ }
-    ensures { λ r. ⌜ ((ds : List ℕ) → FullSigns fulls ds → ValidRows ds (rowsFrom count (drop base (now (t .entry)))) → Cleared ds v skip from (rowsFrom count (drop base (now (t .entry)))) → r ≡ huntedOf (pairIn ds v 0 (rowsFrom count (drop base (now (t .entry)))))) ⌝ }
+    requires { ⌜ (base + rowWidth * count ≤ length (now t)) × FitsBlocks fulls × (v < 12) ⌝ }
+    ensures { λ r. ⌜ (let rs = rowsFrom count (drop base (now (t .entry))) in (ds : List ℕ) → FullSigns fulls ds → ValidRows ds rs → Cleared ds v skip from rs → r ≡ huntedOf (pairIn ds v 0 rs)) ⌝ }
 {
     let mut i = skip;
     let mut least = from;
@@ -102,8 +102,8 @@ pub fn hunt(
     from: usize,
     fulls: Clause,
 ) -> Hunted
-    requires { ⌜ (base + rowWidth * count ≤ length (now t)) × Packed fulls × (v ≤ 12) ⌝ }
-    ensures { λ r. ⌜ ((ds : List ℕ) → FullSigns fulls ds → ValidRows ds (rowsFrom count (drop base (now (t .entry)))) → Settled ds v (rowsFrom count (drop base (now (t .entry)))) → Cleared ds v skip from (rowsFrom count (drop base (now (t .entry)))) → r ≡ huntedOf (nextPair ds (rowsFrom count (drop base (now (t .entry)))))) ⌝ }
+    requires { ⌜ (base + rowWidth * count ≤ length (now t)) × FitsBlocks fulls × (v ≤ 12) ⌝ }
+    ensures { λ r. ⌜ (let rs = rowsFrom count (drop base (now (t .entry))) in (ds : List ℕ) → FullSigns fulls ds → ValidRows ds rs → Settled ds v rs → Cleared ds v skip from rs → r ≡ huntedOf (nextPair ds rs)) ⌝ }
 {
     let mut s = v;
     let mut first = skip;

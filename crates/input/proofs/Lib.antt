@@ -6,5 +6,8 @@ pub mod Scanning
 pub mod Validating
 pub mod Accepting
 pub mod Acceptance
-mod Carried
+pub mod Carried
+pub mod Walking
+pub mod Turning
+pub mod Carrying
 pub mod Faults

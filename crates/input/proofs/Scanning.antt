@@ -5,9 +5,11 @@ use native.Mathlib.Numerals.{add-one}
 use mathlib.Core.Path.{_≡_, refl, sym, ap, ap₂, _∙_}
 use mathlib.Core.Bool.{Bool, true, false, _&&_, cond}
 use mathlib.Core.List.{List, [], _∷_, _++_}
-use lib.ListN.{length, getD, take, drop, length-take, List·getD-eq-default, drop-of-length-le}
-use lib.Seq.{drop-cons, getD-take}
+use lib.ListN.{length, getD, take, drop, length-take, List·getD-eq-default}
+use lib.Seq.{getD-take}
 use lib.Dec.{eqb, leb, ltb}
+use denote.Enum.Declared.{tagOf}
+use types.Run.{OneOf, miss}
 use borrow.Author.Tests.{eq-eqb, ne-eqb, eqb-true, eqb-false, le-leb, lt-leb, lt-ltb, le-ltb, leb-true, leb-false}
 use Rattle.wcsp.specs.Entry.{Binding as Bound}
 use Rattle.words.specs.declared.Word.{Word}
@@ -20,7 +22,14 @@ use Rattle.fields.specs.Entries.{entriesFrom}
 use Rattle.input.specs.declared.Got.{Got}
 use Rattle.input.specs.declared.Got.the-variants.{Number, Fault}
 use Rattle.input.specs.Instance.{Scanned, goes, stops, scanBinding, scanCost, scanWord, resume, entriesFault}
-use Rattle.input.specs.Scan.{scanGot}
+use Rattle.input.specs.declared.Behind.{Behind}
+use Rattle.input.specs.declared.Behind.the-variants.{Goes, Ends, Stops}
+use Rattle.input.specs.declared.Next.{Next}
+use Rattle.input.specs.declared.Next.the-variants.{End}
+use Rattle.input.specs.declared.Next.the-variants.{Word as Found}
+use Rattle.input.specs.Phases.{nextOf}
+use Rattle.input.proofs.Behind.{the-type}
+use Rattle.input.specs.Scan.{stateOf, goesOn, closed, scanOn, gotIn, scanGot, scanFrom}
 
 -- ---- a variable's size
 
@@ -44,45 +53,45 @@ size-known sizes n v a h = omega (arith, known (take n sizes) v a h, length-take
 -- ---- one word
 
 module _ (ds : List ℕ) (from count v a : ℕ) where
-  pub binding-low : v < from → stops 3 ≡ scanBinding ds from count v a
-  unfolding scanBinding
+  pub binding-low : v < from → Stops 3 ≡ stateOf (scanBinding ds from count v a)
+  unfolding scanBinding stateOf
   binding-low h = rw (lt-leb from v h)
 
   module _ (r : ℕ) (e : r ≡ getD ds v 0) (h : from ≤ v) where
-    pub binding-high : r ≤ a → stops 3 ≡ scanBinding ds from count v a
-    unfolding scanBinding
+    pub binding-high : r ≤ a → Stops 3 ≡ stateOf (scanBinding ds from count v a)
+    unfolding scanBinding stateOf
     binding-high l = rw (le-leb from v h, ← e, le-ltb a r l)
 
-    pub binding-good : a < r → goes (v + 1) count ≡ scanBinding ds from count v a
-    unfolding scanBinding
+    pub binding-good : a < r → Goes (v + 1) count ≡ stateOf (scanBinding ds from count v a)
+    unfolding scanBinding stateOf
     binding-good l = rw (le-leb from v h, ← e, lt-ltb a r l, add-one v)
 
-pub cost-high : (count c : ℕ) → maxCost < c → stops 4 ≡ scanCost count c
-unfolding scanCost
+pub cost-high : (count c : ℕ) → maxCost < c → Stops 4 ≡ stateOf (scanCost count c)
+unfolding scanCost stateOf
 cost-high count c h = rw (lt-ltb maxCost c h)
 
-pub cost-late : (count c : ℕ) → c ≤ maxCost → maxEntries ≤ count → stops 5 ≡ scanCost count c
-unfolding scanCost
+pub cost-late : (count c : ℕ) → c ≤ maxCost → maxEntries ≤ count → Stops 5 ≡ stateOf (scanCost count c)
+unfolding scanCost stateOf
 cost-late count c h l = rw (le-ltb maxCost c h, le-leb maxEntries count l)
 
-pub cost-good : (count c : ℕ) → c ≤ maxCost → count < maxEntries → goes 0 (count + 1) ≡ scanCost count c
-unfolding scanCost
+pub cost-good : (count c : ℕ) → c ≤ maxCost → count < maxEntries → Goes 0 (count + 1) ≡ stateOf (scanCost count c)
+unfolding scanCost stateOf
 cost-good count c h l = rw (le-ltb maxCost c h, lt-leb maxEntries count l, add-one count)
 
-module _ (ds : List ℕ) (from count w : ℕ) (x : Scanned) where
+module _ (ds : List ℕ) (from count w : ℕ) (x : Behind) where
   module _ (read : Word) (e : read ≡ wordOf w) where
-    pub at-binding : (v a : ℕ) → read ≡ Binding v a → x ≡ scanBinding ds from count v a → x ≡ scanWord ds from count w
+    pub at-binding : (v a : ℕ) → read ≡ Binding v a → x ≡ stateOf (scanBinding ds from count v a) → x ≡ stateOf (scanWord ds from count w)
     unfolding scanWord
     at-binding v a g f = let (k, p, q) = binding-kind w v a (sym e ∙ g) in rw (eq-eqb (kindOf w) 3 k, p, q) f
 
-    pub at-cost : (c : ℕ) → read ≡ Cost c → x ≡ scanCost count c → x ≡ scanWord ds from count w
+    pub at-cost : (c : ℕ) → read ≡ Cost c → x ≡ stateOf (scanCost count c) → x ≡ stateOf (scanWord ds from count w)
     unfolding scanWord
     at-cost c g f =
         let (k, p) = cost-kind w c (sym e ∙ g) in
         rw (ne-eqb (kindOf w) 3 (omega arith), eq-eqb (kindOf w) 4 k, p) f
 
-  pub at-other : (eqb (kindOf w) 3 ≡ false) × (eqb (kindOf w) 4 ≡ false) → x ≡ stops 3 → x ≡ scanWord ds from count w
-  unfolding scanWord
+  pub at-other : (eqb (kindOf w) 3 ≡ false) × (eqb (kindOf w) 4 ≡ false) → x ≡ Stops 3 → x ≡ stateOf (scanWord ds from count w)
+  unfolding scanWord stateOf
   at-other (n, m) f = rw (n, m) f
 
 -- ---- what follows a word
@@ -186,23 +195,70 @@ module _ (ds : List ℕ) (from count w : ℕ) (ws : List ℕ) where
   unfolding scanGot entriesFault resume
   scan-off k e = rw (← e, ne-eqb k 0 (omega (arith, word-stops ds from count k w e)))
 
-module _ (ds : List ℕ) (from count : ℕ) (ws : List ℕ) (i : ℕ) where
-  pub scan-goes : (f c : ℕ) (x : Scanned) → i < length ws → x ≡ scanWord ds from count (getD ws i 0) → x ≡ goes f c
-      → scanGot ds from count (drop i ws) ≡ scanGot ds f c (drop (i + 1) ws)
-  scan-goes f c x h e k =
-      rw (drop-cons ws i 0 h, add-one i) (scan-on ds from count (getD ws i 0) (drop (suc i) ws) f c (sym k ∙ e))
+-- ---- where the words end
 
-  pub scan-stops : (k : ℕ) (x : Scanned) → i < length ws → x ≡ scanWord ds from count (getD ws i 0) → x ≡ stops k
-      → Fault k ≡ scanGot ds from count (drop i ws)
-  scan-stops k x h e l = rw (drop-cons ws i 0 h) (scan-off ds from count (getD ws i 0) (drop (suc i) ws) k (sym l ∙ e))
+pub closed-open : (from count : ℕ) → (from ≡ 0 → ⊥) → Stops 3 ≡ closed from count
+unfolding closed
+closed-open from count e = rw (ne-eqb from 0 e)
 
-  pub scan-open : length ws ≤ i → (from ≡ 0 → ⊥) → Fault 3 ≡ scanGot ds from count (drop i ws)
-  unfolding scanGot entriesFault
-  scan-open h e = rw (drop-of-length-le ws h, ne-eqb from 0 e)
+pub closed-good : (from count : ℕ) → from ≡ 0 → Ends count ≡ closed from count
+unfolding closed
+closed-good from count e = rw (eq-eqb from 0 e)
 
-  pub scan-end : length ws ≤ i → from ≡ 0 → Number count ≡ scanGot ds from count (drop i ws)
-  unfolding scanGot entriesFault entriesFrom
-  scan-end h e = let z : count + 0 ≡ count = omega arith in rw (drop-of-length-le ws h, eq-eqb from 0 e, z)
+-- ---- a turn: from one state to the next
+
+pub on-goes : (ds : List ℕ) (b : Behind) (x : Next) (from count w : ℕ) (r : Behind) → b ≡ Goes from count → x ≡ Found w → r ≡ stateOf (scanWord ds from count w) → r ≡ scanOn ds b x
+unfolding scanOn
+on-goes ds b x from count w r e f g = rw (e, f, g)
+
+pub on-end : (ds : List ℕ) (b : Behind) (x : Next) (from count : ℕ) (r : Behind) → b ≡ Goes from count → x ≡ End → r ≡ closed from count → r ≡ scanOn ds b x
+unfolding scanOn
+on-end ds b x from count r e f g = rw (e, f, g)
+
+pub on-still : (ds : List ℕ) (b : Behind) (x : Next) → OneOf (1 ∷ 2 ∷ []) (tagOf the-type b) → b ≡ scanOn ds b x
+unfolding scanOn
+on-still ds (Goes from count) x o = absurd (miss (1 ∷ 2 ∷ []) 0 tt o)
+on-still ds (Ends count) x o = refl
+on-still ds (Stops k) x o = refl
+
+-- where the words end reading ends
+pub ends-on : (ds : List ℕ) (b : Behind) → goesOn (scanOn ds b End) ≡ false
+unfolding scanOn closed
+ends-on ds (Goes from count) = go (eqb from 0)
+  where
+    go : (x : Bool) → goesOn (cond x (Ends count) (Stops 3)) ≡ false
+    go true = refl
+    go false = refl
+ends-on ds (Ends count) = refl
+ends-on ds (Stops k) = refl
+
+-- what the words come to does not change from turn to turn
+turn-end : (ds : List ℕ) (from count : ℕ) (x : Bool) → eqb from 0 ≡ x → scanGot ds from count [] ≡ scanFrom ds (cond x (Ends count) (Stops 3)) []
+unfolding scanFrom scanGot entriesFault entriesFrom
+turn-end ds from count true e = let z : count + 0 ≡ count = omega arith in rw (e, z)
+turn-end ds from count false e = rw e
+
+turn-word : (ds : List ℕ) (from count w : ℕ) (ws : List ℕ) (x : Scanned) → scanWord ds from count w ≡ x → scanGot ds from count (w ∷ ws) ≡ scanFrom ds (stateOf x) ws
+unfolding scanFrom stateOf
+turn-word ds from count w ws (goes f c) e = scan-on ds from count w ws f c (sym e)
+turn-word ds from count w ws (stops k) e = sym (scan-off ds from count w ws k (sym e))
+
+pub turn-on : (ds : List ℕ) (b : Behind) (ws : List ℕ) → goesOn b ≡ true → scanFrom ds b ws ≡ scanFrom ds (scanOn ds b (nextOf ws)) (drop 1 ws)
+unfolding scanFrom scanOn nextOf closed
+turn-on ds (Goes from count) [] g = turn-end ds from count (eqb from 0) refl
+turn-on ds (Goes from count) (w ∷ ws) g = turn-word ds from count w ws (scanWord ds from count w) refl
+turn-on ds (Ends count) ws g = let z : _≡_ {A = ℕ} 0 1 = cc in absurd (omega arith)
+turn-on ds (Stops k) ws g = let z : _≡_ {A = ℕ} 0 1 = cc in absurd (omega arith)
+
+pub turned : (ds : List ℕ) (b : Behind) (ws : List ℕ) → goesOn b ≡ false → gotIn b ≡ scanFrom ds b ws
+unfolding scanFrom
+turned ds (Goes from count) ws g = let z : _≡_ {A = ℕ} 0 1 = cc in absurd (omega arith)
+turned ds (Ends count) ws g = refl
+turned ds (Stops k) ws g = refl
+
+pub from-start : (ds : List ℕ) (count : ℕ) (ws : List ℕ) (b : Behind) (r : Got) → r ≡ gotIn b → gotIn b ≡ scanFrom ds (Goes 0 count) ws → r ≡ scanGot ds 0 count ws
+unfolding scanFrom
+from-start ds count ws b r e f = e ∙ f
 
 -- ---- back from the answer
 

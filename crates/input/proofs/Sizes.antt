@@ -7,7 +7,7 @@ use mathlib.Core.List.{List, [], _∷_, _++_, map, append-nil}
 use lib.ListN.{length, take, drop, set, replicate}
 use lib.Seq.{append-snoc, drop-drop}
 use lib.Dec.{eqb}
-use borrow.Author.Tests.{eqb-false, ne-eqb}
+use borrow.Author.Tests.{eqb-false, ne-eqb, ltb-true, ltb-false}
 use Rattle.words.specs.Layout.{payloadOf}
 use Rattle.fields.specs.Limits.{maxVariables, maxValues}
 use Rattle.fields.specs.Front.{sizeIn, goodSizes}
@@ -15,8 +15,12 @@ use Rattle.fields.proofs.Fronts.{size-some}
 use Rattle.input.specs.declared.Got.{Got}
 use Rattle.input.specs.declared.Got.the-variants.{Number, Fault}
 use Rattle.input.specs.declared.Stations.{Stations}
+use Rattle.input.specs.declared.Sizing.{Sizing}
+use Rattle.input.specs.declared.Next.{Next}
+use Rattle.input.specs.declared.Next.the-variants.{End}
+use Rattle.input.specs.declared.Next.the-variants.{Word as Found}
 use Rattle.input.specs.Instance.{entriesFault, stationsFault}
-use Rattle.input.specs.Phases.{nextOf, nextBy, sizeGot, sizeNext, sizesRead, refusedStations}
+use Rattle.input.specs.Phases.{nextOf, nextBy, sizeGot, sizeNext, sizesRead, refusedStations, sizeFrom, sizesLeft, sizingOf, stoppedSizing, sizeBy, sizeOn, stationsIn}
 use Rattle.input.proofs.Filling.{Filling, filling-start, filling-step, filling-end}
 
 -- ---- a station word that was read
@@ -43,6 +47,16 @@ size-fault w f e = go (eqb (sizeIn w) 0) e
   where
     go : (b : Bool) → Fault f ≡ cond b (Fault 2) (Number (sizeIn w)) → b ≡ true
     go true g = refl
+    go false g = let z : _≡_ {A = ℕ} 0 1 = cc in absurd (omega arith)
+
+-- a size's fault is 2
+pub size-two : (ws : List ℕ) (f : ℕ) → Fault f ≡ sizeNext ws → f ≡ 2
+unfolding nextBy nextOf sizeGot
+size-two [] f e = cc
+size-two (w ∷ ws) f e = go (eqb (sizeIn w) 0) e
+  where
+    go : (b : Bool) → Fault f ≡ cond b (Fault 2) (Number (sizeIn w)) → f ≡ 2
+    go true g = cc
     go false g = let z : _≡_ {A = ℕ} 0 1 = cc in absurd (omega arith)
 
 pub sized-of : (ws : List ℕ) (d : ℕ) → Number d ≡ sizeNext ws → Sized ws d
@@ -82,13 +96,13 @@ pub record SizesSoFar (ws : List ℕ) (n : ℕ) (sizes : List ℕ) (i : ℕ) : T
 
 module _ (ws : List ℕ) (n : ℕ) (sizes : List ℕ) (i : ℕ) (limit : n ≤ maxVariables) (inv : SizesSoFar ws n sizes i) where
   pub sizes-fault : (x : Got) (f : ℕ) → i < n → x ≡ sizeNext (drop (i + 1) ws) → x ≡ Fault f
-      → refusedStations ≡ sizesRead n ws
+      → refusedStations f ≡ sizesRead n ws
   unfolding sizesRead
   sizes-fault x f h e g =
       let m : n - i ≡ suc (n - i - 1) = omega arith in
       let l : goodSizes n (drop 1 ws) ≡ false =
       inv .good ∙ ap (λ k. goodSizes k (drop (i + 1) ws)) m ∙ good-none (n - i - 1) f (drop (i + 1) ws) (sym g ∙ e) in
-      rw l
+      rw (l, size-two (drop (i + 1) ws) f (sym g ∙ e))
 
   pub sizes-more : (d : ℕ) → i < n → Sized (drop (i + 1) ws) d → SizesSoFar ws n (set sizes i d) (i + 1)
   sizes-more d h s =
@@ -122,20 +136,88 @@ sizes-start ws n =
       filled = rw e (filling-start (map payloadOf (take n (drop 1 ws))));
     }
 
+-- ---- a turn: i are read, or reading has ended at a fault
+
+pub data SizesFine (ws : List ℕ) (n : ℕ) : Sizing → List ℕ → Type 0 where
+  reads : (i : ℕ) {s : Sizing} {xs : List ℕ} → s .left ≡ n - i → s .number ≡ 0 → s .behind ≡ i + 1 → xs ≡ drop (i + 1) ws → SizesSoFar ws n (s .sizes) i
+      → SizesFine ws n s xs
+  broke : {s : Sizing} {xs : List ℕ} → s .left ≡ 0 → stationsIn s ≡ sizesRead n ws → SizesFine ws n s xs
+
+pub fine-start : (ws : List ℕ) (n : ℕ) → SizesFine ws n (sizingOf n) (drop 1 ws)
+fine-start ws n = let l : n ≡ n - 0 = omega arith in reads 0 l refl refl refl (sizes-start ws n)
+
+-- a size that was read is 1 to 8
+pub size-range : (y : Got) (x : Next) (d : ℕ) → y ≡ sizeFrom x → y ≡ Number d → (1 ≤ d) × (d ≤ maxValues)
+unfolding nextBy
+size-range y x d e g = go x (sym g ∙ e)
+  where
+    go : (x : Next) → Number d ≡ sizeFrom x → (1 ≤ d) × (d ≤ maxValues)
+    go End h = let z : _≡_ {A = ℕ} 0 1 = cc in absurd (omega arith)
+    go (Found w) h = let (l, t) = size-got w h in (l, size-payload w d t l .1)
+
+pub size-of-word : (y : Got) (w d : ℕ) → y ≡ sizeGot w → y ≡ Number d → (1 ≤ d) × (d ≤ maxValues)
+unfolding nextBy
+size-of-word y w d e g = size-range y (Found w) d e g
+
+-- one size more, or its fault
+module _ (s : Sizing) (y : Got) (x : Next) (e : y ≡ sizeFrom x) where
+  pub size-more : (d : ℕ) → y ≡ Number d → record { left = s .left - 1; number = 0; behind = s .behind + 1; sizes = set (s .sizes) (s .behind - 1) d } ≡ sizeOn s x
+  unfolding sizeBy
+  size-more d g = ap (sizeBy s) (sym g ∙ e)
+
+  pub size-stops : (f : ℕ) → y ≡ Fault f → stoppedSizing f ≡ sizeOn s x
+  unfolding sizeBy
+  size-stops f g = ap (sizeBy s) (sym g ∙ e)
+
+-- where the words end reading ends
+pub left-ends : (s : Sizing) → sizesLeft (sizeOn s End) ≡ false
+unfolding sizeBy nextBy
+left-ends s = refl
+
+module _ (ws : List ℕ) (n : ℕ) (limit : n ≤ maxVariables) (s : Sizing) (xs : List ℕ) where
+  fine-by : (i : ℕ) → 0 < s .left → s .left ≡ n - i → s .behind ≡ i + 1 → xs ≡ drop (i + 1) ws → SizesSoFar ws n (s .sizes) i
+      → (y : Got) → y ≡ sizeNext xs → SizesFine ws n (sizeBy s y) (drop 1 xs)
+  unfolding sizeBy
+  fine-by i h l b x inv (Number d) e =
+      let sized : Sized (drop (i + 1) ws) d = sized-of (drop (i + 1) ws) d (e ∙ ap sizeNext x) in
+      let at : s .behind - 1 ≡ i = omega arith in
+      let fewer : s .left - 1 ≡ n - (i + 1) = omega arith in
+      let further : s .behind + 1 ≡ i + 1 + 1 = omega arith in
+      let filled : SizesSoFar ws n (set (s .sizes) (s .behind - 1) d) (i + 1) = rw at (sizes-more ws n (s .sizes) i limit inv d (omega arith) sized) in
+      reads (i + 1) fewer refl further (ap (drop 1) x ∙ drop-drop 1 (i + 1) ws) filled
+  fine-by i h l b x inv (Fault f) e = broke refl (sizes-fault ws n (s .sizes) i limit inv (Fault f) f (omega arith) (e ∙ ap sizeNext x) refl)
+
+  pub fine-on : sizesLeft s ≡ true → SizesFine ws n s xs → SizesFine ws n (sizeOn s (nextOf xs)) (drop 1 xs)
+  fine-on g (broke l e) = let h = ltb-true 0 (s .left) g in absurd (omega arith)
+  fine-on g (reads i l z b x inv) = fine-by i (ltb-true 0 (s .left) g) l b x inv (sizeNext xs) refl
+
+  -- there is room for one size more
+  pub fine-room : sizesLeft s ≡ true → SizesFine ws n s xs → (1 ≤ s .left) × (1 ≤ s .behind) × (s .behind ≤ maxVariables)
+  fine-room g (broke l e) = let h = ltb-true 0 (s .left) g in absurd (omega arith)
+  fine-room g (reads i l z b x inv) = let h = ltb-true 0 (s .left) g in (omega arith, omega arith, omega arith)
+
+  pub fine-end : sizesLeft s ≡ false → SizesFine ws n s xs → stationsIn s ≡ sizesRead n ws
+  fine-end g (broke l e) = e
+  fine-end g (reads i l z b x inv) =
+      let h = ltb-false 0 (s .left) g in
+      let k = inv .below in
+      let o : s .behind ≡ n + 1 = omega arith in
+      rw (z, o) (sizes-end ws n (s .sizes) i limit inv (omega arith))
+
 -- ---- what the answer tells, of an instance's stations and of a sheet's
 
-module _ (b : Bool) (found : Stations) (zero-found : found .number ≡ 0) (read : Stations) (r : read ≡ cond b found refusedStations) where
+module _ (b : Bool) (found : Stations) (zero-found : found .number ≡ 0) (read : Stations) (r : read ≡ cond b found (refusedStations 2)) where
   pub stations-taken : read .number ≡ 0 → (b ≡ true) × (read ≡ found)
   stations-taken z = go b r
     where
-      go : (x : Bool) → read ≡ cond x found refusedStations → (x ≡ true) × (read ≡ found)
+      go : (x : Bool) → read ≡ cond x found (refusedStations 2) → (x ≡ true) × (read ≡ found)
       go true e = (refl, e)
       go false e = let k : read .number ≡ 2 = ap (λ (x : Stations). x .number) e in absurd (omega arith)
 
   pub stations-refused : (read .number ≡ 0 → ⊥) → (b ≡ false) × (read .number ≡ 2)
   stations-refused n = go b r
     where
-      go : (x : Bool) → read ≡ cond x found refusedStations → (x ≡ false) × (read .number ≡ 2)
+      go : (x : Bool) → read ≡ cond x found (refusedStations 2) → (x ≡ false) × (read .number ≡ 2)
       go true e = absurd (n (ap (λ (x : Stations). x .number) e ∙ zero-found))
       go false e = (refl, ap (λ (x : Stations). x .number) e)
 

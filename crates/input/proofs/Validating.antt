@@ -6,7 +6,7 @@ use mathlib.Core.Path.{_≡_, refl, sym, ap, _∙_}
 use mathlib.Core.Bool.{true, false, cond}
 use mathlib.Core.List.{List, [], _∷_, map}
 use mathlib.Core.Option.{Option, none, some}
-use lib.ListN.{length, getD, take, drop, length-map}
+use lib.ListN.{length, getD, take, drop, length-map, length-drop}
 use lib.Seq.{length-take-le}
 use lib.Dec.{eqb}
 use borrow.Author.Tests.{ne-eqb}
@@ -113,6 +113,10 @@ module _ (ws : List ℕ) (n : ℕ) (h : Headed ws n) where
       unfolding sizesRead found
       is-found = stations-taken (goodSizes n (drop 1 ws)) found refl read r z
 
+      -- the entries start within the words or at their end
+      pub entries-within : n + 1 ≤ length ws
+      entries-within = omega (arith, good-long n (drop 1 ws) (is-found .0), headed-bounds ws n h, length-drop 1 ws)
+
       pub sizes-padded : read .sizes ≡ padded (sizesOf ws)
       unfolding found
       sizes-padded = rw (sizes-are) (ap (λ (x : Stations). x .sizes) (is-found .1))
@@ -139,10 +143,23 @@ module _ (ws : List ℕ) (n : ℕ) (h : Headed ws n) where
             let c : length (entriesFrom [] (drop (n + 1) ws)) ≡ count = omega (arith, f .1) in
             rw (i, sizes-number (is-found .0), entries-are, c, ← sizes-padded)
 
-pub no-head : (ws : List ℕ) (f : ℕ) → Fault f ≡ headNext ws → refusedInstance 1 ≡ validateCall ws
+-- a head's fault is 1
+pub head-one : (ws : List ℕ) (f : ℕ) → Fault f ≡ headNext ws → f ≡ 1
+unfolding nextBy nextOf headGot headed
+head-one [] f e = cc
+head-one (w ∷ ws) f e = go (headIn w) e
+  where
+    go : (o : Option ℕ) → Fault f ≡ headed (Fault 1) Number o → f ≡ 1
+    go none g = cc
+    go (some n) g = let z : _≡_ {A = ℕ} 0 1 = cc in absurd (omega arith)
+
+no-head-one : (ws : List ℕ) (f : ℕ) → Fault f ≡ headNext ws → refusedInstance 1 ≡ validateCall ws
 unfolding validateCall instanceFault nextBy nextOf
-no-head [] f e = refl
-no-head (w ∷ ws) f e = rw (headless (λ n. stationsFault n [] ws) w f e)
+no-head-one [] f e = refl
+no-head-one (w ∷ ws) f e = rw (headless (λ n. stationsFault n [] ws) w f e)
+
+pub no-head : (ws : List ℕ) (f : ℕ) → Fault f ≡ headNext ws → refusedInstance f ≡ validateCall ws
+no-head ws f e = ap refusedInstance (head-one ws f e) ∙ no-head-one ws f e
 
 -- ---- what the answer tells
 

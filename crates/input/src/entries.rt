@@ -1,6 +1,10 @@
 // The entries' words: their faults and their number.
 use crate::Behind;
 use crate::Got;
+use crate::Next;
+use crate::reader::come_to;
+use crate::reader::moved;
+use crate::reader::next;
 use fields::MAX_COST;
 use fields::MAX_ENTRIES;
 use fields::MAX_VARIABLES;
@@ -8,10 +12,10 @@ use fields::wide;
 use words::Word;
 ghost use mathlib.Core.Path.{_≡_};
 ghost use Prim.Native.Nat.{_≤_};
-ghost use lib.ListN.{getD, take, drop};
+ghost use lib.ListN.{length, getD, take, drop};
 ghost use Rattle.fields.specs.Limits.{maxVariables};
 ghost use Rattle.input.specs.Instance.{scanBinding, scanCost, scanWord};
-ghost use Rattle.input.specs.Scan.{behindOf, stopIn, scanGot};
+ghost use Rattle.input.specs.Scan.{stateOf, goesOn, closed, scanOn, gotIn, scanGot, scanFrom};
 
 // The size of a variable, 0 for one that the field lacks.
 fn size_of(sizes: &[u8; MAX_VARIABLES], n: usize, v: u32) -> u32
@@ -34,7 +38,7 @@ fn scan_binding(
     a: u32,
 ) -> Behind
     requires { ⌜ n ≤ maxVariables ⌝ }
-    ensures { λ r. ⌜ behindOf r ≡ scanBinding (take n (now (sizes .entry))) from count v a ⌝ }
+    ensures { λ r. ⌜ r ≡ stateOf (scanBinding (take n (now (sizes .entry))) from count v a) ⌝ }
 {
     if v < from {
         return Behind::Stops(3);
@@ -46,7 +50,7 @@ fn scan_binding(
 }
 
 fn scan_cost(count: u32, c: u32) -> Behind
-    ensures { λ r. ⌜ behindOf r ≡ scanCost count c ⌝ }
+    ensures { λ r. ⌜ r ≡ stateOf (scanCost count c) ⌝ }
 {
     if MAX_COST < c {
         return Behind::Stops(4);
@@ -59,7 +63,7 @@ fn scan_cost(count: u32, c: u32) -> Behind
 
 fn scan_word(sizes: &[u8; MAX_VARIABLES], n: usize, from: u32, count: u32, w: u32) -> Behind
     requires { ⌜ n ≤ maxVariables ⌝ }
-    ensures { λ r. ⌜ behindOf r ≡ scanWord (take n (now (sizes .entry))) from count w ⌝ }
+    ensures { λ r. ⌜ r ≡ stateOf (scanWord (take n (now (sizes .entry))) from count w) ⌝ }
 {
     let word = words::read(w);
     match word {
@@ -69,13 +73,69 @@ fn scan_word(sizes: &[u8; MAX_VARIABLES], n: usize, from: u32, count: u32, w: u3
     }
 }
 
-fn stop_in(b: Behind) -> u32
-    ensures { λ r. ⌜ r ≡ stopIn b ⌝ }
+// Whether reading goes on.
+fn goes(b: Behind) -> bool
+    ensures { λ r. ⌜ r ≡ goesOn b ⌝ }
 {
     match b {
-        Behind::Goes(_, _) => 0,
-        Behind::Stops(k) => k,
+        Behind::Goes(_, _) => true,
+        Behind::Ends(_) => false,
+        Behind::Stops(_) => false,
     }
+}
+
+// What a state answers where reading has ended.
+fn got_in(b: Behind) -> Got
+    ensures { λ r. ⌜ r ≡ gotIn b ⌝ }
+{
+    match b {
+        Behind::Goes(_, _) => Got::Fault(3),
+        Behind::Ends(count) => Got::Number(count),
+        Behind::Stops(k) => Got::Fault(k),
+    }
+}
+
+// The state where the words end: 3 inside an entry.
+fn at_end(from: u32, count: u32) -> Behind
+    ensures { λ r. ⌜ r ≡ closed from count ⌝ }
+{
+    if from != 0 {
+        return Behind::Stops(3);
+    }
+    Behind::Ends(count)
+}
+
+// The state behind the next word, or behind the end of the words.
+fn scan_on(sizes: &[u8; MAX_VARIABLES], n: usize, b: Behind, next: Next) -> Behind
+    requires { ⌜ n ≤ maxVariables ⌝ }
+    ensures { λ r. ⌜ r ≡ scanOn (take n (now (sizes .entry))) b next ⌝ }
+{
+    let Behind::Goes(from, count) = b else {
+        return b;
+    };
+    let Next::Word(w) = next else {
+        return at_end(from, count);
+    };
+    scan_word(sizes, n, from, count, w)
+}
+
+// The state behind the words from an index on. The reader is carried from word to word.
+fn scan_through(
+    words: &[u32],
+    at: usize,
+    sizes: &[u8; MAX_VARIABLES],
+    n: usize,
+    mut b: Behind,
+) -> Behind
+    requires { ⌜ (n ≤ maxVariables) × (at ≤ length (now words)) ⌝ }
+    ensures { λ r. ⌜ gotIn r ≡ scanFrom (take n (now (sizes .entry))) b (drop at (now (words .entry))) ⌝ }
+{
+    let mut r = come_to(words, at);
+    while goes(b) {
+        b = scan_on(sizes, n, b, next(r));
+        r = moved(r);
+    }
+    b
 }
 
 // The number of cost words, those before counted, or the fault of the entries from an index on.
@@ -86,23 +146,8 @@ pub fn scan_entries(
     n: usize,
     before: u32,
 ) -> Got
-    requires { ⌜ n ≤ maxVariables ⌝ }
+    requires { ⌜ (n ≤ maxVariables) × (at ≤ length (now words)) ⌝ }
     ensures { λ r. ⌜ r ≡ scanGot (take n (now (sizes .entry))) 0 before (drop at (now (words .entry))) ⌝ }
 {
-    let mut from: u32 = 0;
-    let mut count = before;
-    let mut i = at;
-    while i < words.len() {
-        let behind = scan_word(sizes, n, from, count, words[i]);
-        let Behind::Goes(f, c) = behind else {
-            return Got::Fault(stop_in(behind));
-        };
-        from = f;
-        count = c;
-        i += 1;
-    }
-    if from != 0 {
-        return Got::Fault(3);
-    }
-    Got::Number(count)
+    got_in(scan_through(words, at, sizes, n, Behind::Goes(0, before)))
 }

@@ -1,16 +1,21 @@
 // The words in front of the entries: the head and station words.
 use crate::Got;
 use crate::Next;
+use crate::Sizing;
 use crate::Stations;
+use crate::fault_in;
+use crate::reader::come_to;
+use crate::reader::moved;
+use crate::reader::next;
 use crate::reader::word_at;
 use fields::MAX_VALUES;
 use fields::MAX_VARIABLES;
 use words::Word;
 ghost use mathlib.Core.Path.{_≡_};
 ghost use Prim.Native.Nat.{_≤_};
-ghost use lib.ListN.{drop};
+ghost use lib.ListN.{length};
 ghost use Rattle.fields.specs.Limits.{maxVariables};
-ghost use Rattle.input.specs.Phases.{headNext, sizeNext, refusedStations, sizesRead};
+ghost use Rattle.input.specs.Phases.{headNext, sizeGot, sizeFrom, refusedStations, sizesRead, sizesLeft, stoppedSizing, sizeOn, sizingOf, stationsIn};
 
 // The number of variables that the head gives.
 pub fn read_head(words: &[u32]) -> Got
@@ -31,13 +36,10 @@ pub fn read_head(words: &[u32]) -> Got
     Got::Number(n)
 }
 
-// The domain size that the station word at an index gives.
-pub fn read_size(words: &[u32], at: usize) -> Got
-    ensures { λ r. ⌜ r ≡ sizeNext (drop at (now (words .entry))) ⌝ }
+// The domain size that a word gives as a station word.
+pub fn size_got(w: u32) -> Got
+    ensures { λ r. ⌜ r ≡ sizeGot w ⌝ }
 {
-    let Next::Word(w) = word_at(words, at) else {
-        return Got::Fault(2);
-    };
     let Word::Size(d) = words::read(w) else {
         return Got::Fault(2);
     };
@@ -50,33 +52,92 @@ pub fn read_size(words: &[u32], at: usize) -> Got
     Got::Number(d)
 }
 
-pub fn refused_stations() -> Stations
-    ensures { λ r. ⌜ r ≡ refusedStations ⌝ }
+// The same of the next word.
+fn size_from(next: Next) -> Got
+    ensures { λ r. ⌜ r ≡ sizeFrom next ⌝ }
+{
+    let Next::Word(w) = next else {
+        return Got::Fault(2);
+    };
+    size_got(w)
+}
+
+pub fn refused_stations(k: u32) -> Stations
+    ensures { λ r. ⌜ r ≡ refusedStations k ⌝ }
 {
     Stations {
-        number: 2,
+        number: k,
         behind: 0,
         sizes: [0; MAX_VARIABLES],
     }
 }
 
+fn sizes_left(s: Sizing) -> bool
+    ensures { λ r. ⌜ r ≡ sizesLeft s ⌝ }
+{
+    s.left > 0
+}
+
+fn stopped_sizing(k: u32) -> Sizing
+    ensures { λ r. ⌜ r ≡ stoppedSizing k ⌝ }
+{
+    Sizing {
+        left: 0,
+        number: k,
+        behind: 0,
+        sizes: [0; MAX_VARIABLES],
+    }
+}
+
+// The sizes with that of the next word.
+fn size_on(s: Sizing, next: Next) -> Sizing
+    requires { ⌜ (1 ≤ s .left) × (1 ≤ s .behind) × (s .behind ≤ maxVariables) ⌝ }
+    ensures { λ r. ⌜ r ≡ sizeOn s next ⌝ }
+{
+    let got = size_from(next);
+    let Got::Number(d) = got else {
+        return stopped_sizing(fault_in(got));
+    };
+    let mut sizes = s.sizes;
+    let at = s.behind;
+    sizes[at - 1] = d as u8;
+    Sizing {
+        left: s.left - 1,
+        number: 0,
+        behind: at + 1,
+        sizes,
+    }
+}
+
+// The sizes of the station words behind the head. The reader is carried from word to word.
+fn sizes_through(words: &[u32], at: usize, mut s: Sizing) -> Sizing
+    requires { ⌜ (at ≡ 1) × (1 ≤ length (now words)) × (s .left ≤ maxVariables) × (s ≡ sizingOf (s .left)) ⌝ }
+    ensures { λ r. ⌜ stationsIn r ≡ sizesRead (s .left) (now (words .entry)) ⌝ }
+{
+    let mut r = come_to(words, at);
+    while sizes_left(s) {
+        s = size_on(s, next(r));
+        r = moved(r);
+    }
+    s
+}
+
 // The sizes of an instance's n variables.
 pub fn read_sizes(words: &[u32], n: usize) -> Stations
-    requires { ⌜ n ≤ maxVariables ⌝ }
+    requires { ⌜ (n ≤ maxVariables) × (1 ≤ length (now words)) ⌝ }
     ensures { λ r. ⌜ r ≡ sizesRead n (now (words .entry)) ⌝ }
 {
-    let mut sizes = [1u8; MAX_VARIABLES];
-    let mut i: usize = 0;
-    while i < n {
-        let Got::Number(d) = read_size(words, i + 1) else {
-            return refused_stations();
-        };
-        sizes[i] = d as u8;
-        i += 1;
-    }
-    Stations {
+    let start = Sizing {
+        left: n,
         number: 0,
-        behind: n + 1,
+        behind: 1,
+        sizes: [1; MAX_VARIABLES],
+    };
+    let s = sizes_through(words, 1, start);
+    let sizes = s.sizes;
+    Stations {
+        number: s.number,
+        behind: s.behind,
         sizes,
     }
 }

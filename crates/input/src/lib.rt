@@ -34,10 +34,19 @@ pub struct Stations {
     pub sizes: [u8; MAX_VARIABLES],
 }
 
+// The station words that are being read: how many are to come (0 at a fault), and the stations so far as in Stations.
+pub struct Sizing {
+    pub left: usize,
+    pub number: u32,
+    pub behind: usize,
+    pub sizes: [u8; MAX_VARIABLES],
+}
+
 // The state of the scan behind an entry word: the lowest variable that may be bound next (0: no entry is open) and the
-// count of cost words; or the number of the fault.
+// count of cost words; behind the last word that count; or the number of the fault at which reading ends.
 pub enum Behind {
     Goes(u32, u32),
+    Ends(u32),
     Stops(u32),
 }
 
@@ -45,8 +54,9 @@ pub enum Behind {
 pub fn validate(words: &[u32]) -> Validated
     ensures { λ r. ⌜ r ≡ validateCall (now (words .entry)) ⌝ }
 {
-    let Got::Number(n) = front::read_head(words) else {
-        return refused_instance(1);
+    let head = front::read_head(words);
+    let Got::Number(n) = head else {
+        return refused_instance(fault_in(head));
     };
     let read = front::read_sizes(words, n as usize);
     if read.number != 0 {

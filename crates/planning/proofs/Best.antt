@@ -1,5 +1,5 @@
 -- A run on a sheet's instance: its bound is never above a cost; once it is done the plan call is good, and its assignment the best.
-use Prim.Native.Nat.{ℕ, min}
+use Prim.Native.Nat.{ℕ, _≤_, min}
 use native.Mathlib.Omega.{arith}
 use mathlib.Core.Path.{_≡_, refl, sym, ap}
 use mathlib.Core.Bool.{true}
@@ -9,24 +9,22 @@ use lib.ListN.{length, take, drop}
 use lib.Seq.{take-at}
 use Rattle.wcsp.specs.Row.{Row, emptyWeight}
 use Rattle.wcsp.specs.Resolve.{nextPair}
+use Rattle.wcsp.specs.Rebuild.{rebuilt}
 use Rattle.wcsp.proofs.Lists.{along-length}
-use Rattle.fields.specs.Limits.{maxVariables}
-use Rattle.sheet.proofs.Acceptance.{accepted-sheet}
 use Rattle.sheet.specs.Sheet.{sheetFault, sheetSizes}
 use Rattle.input.specs.Instance.{sizesOf, entriesOf}
-use Rattle.table.specs.Meaning.{tableRows, domains}
+use Rattle.table.specs.Meaning.{tableSizes, ownRows, capacityOf}
 use Rattle.table.specs.Valid.{validTable}
-use Rattle.table.specs.Check.{capacityOf}
 use Rattle.sheet.specs.Made.{madeWords}
 use Rattle.sheet.proofs.Reading.{made-accepted}
 use Rattle.encoding.specs.Calls.{encodeCall}
 use Rattle.resolution.specs.declared.Outcome.{Outcome}
 use Rattle.resolution.specs.Run.{runRows}
 use Rattle.resolution.specs.Calls.{runCall}
-use Rattle.assignment.specs.Calls.{tableAssignment, planCall}
+use Rattle.assignment.specs.Calls.{planCall}
 use Rattle.checker.specs.Theorems.{Best}
 use Rattle.calls.specs.Calls.{runAsked, afterCall, afterCalls}
-use Rattle.calls.specs.Demand.{domainsOf, RunEnds, UpheldFrom}
+use Rattle.calls.specs.Demand.{RunEnds, UpheldFrom}
 use Rattle.calls.proofs.Upholding.{demand3}
 use Rattle.planning.specs.Solving.{tableBuffer, stepLimit}
 use Rattle.planning.specs.Theorems.{DoneIsBest, NoneBelow, RunFrom}
@@ -41,7 +39,7 @@ words-made : (t slice : List ℕ) (limit : ℕ) → validTable t ≡ true
     → length (take (runCall t limit slice .answer .steps) (runCall t limit slice .slice)) ≡ runCall t limit slice .answer .steps
 unfolding runCall
 words-made t slice limit valid =
-    let ws : List ℕ = runRows (domains t) (capacityOf t) (min limit (length slice)) (tableRows t) [] .made in
+    let ws : List ℕ = runRows (tableSizes t) (capacityOf t) (min limit (length slice)) (ownRows t) [] .made in
     rw (valid, take-at ws (drop (length ws) slice) (length ws) refl)
 
 module _ (sheet t slice : List ℕ) (limit : ℕ) (fine : sheetFault sheet ≡ 0)
@@ -83,7 +81,7 @@ module _ (sheet t slice : List ℕ) (limit : ℕ) (fine : sheetFault sheet ≡ 0
   run-from long most =
       record {
         words = words;
-        rows = tableRows left;
+        rows = ownRows left;
         derived = upheld .1 .derived;
         made = steps-made;
         weight = sym (before .1 .runBound limit slice);
@@ -93,21 +91,26 @@ module _ (sheet t slice : List ℕ) (limit : ℕ) (fine : sheetFault sheet ≡ 0
   -- ---- a run that is done
 
   module _ (target : List ℕ) (ended : runCall (encodeCall (madeWords sheet) t .table) limit slice .answer .outcome ≡ Outcome.Done)
-      (long : length target ≡ 12) where
-    no-pair : nextPair (domainsOf (madeWords sheet)) (tableRows left) ≡ none
+      (long : length (sheetSizes sheet) ≤ length target) where
+    no-pair : nextPair (sizesOf (madeWords sheet)) (ownRows left) ≡ none
     unfolding left
-    no-pair = done-ends (domainsOf (madeWords sheet)) _ _ _ _ _ ended (before .1 .run limit slice)
+    no-pair = done-ends (sizesOf (madeWords sheet)) _ _ _ _ _ ended (before .1 .run limit slice)
 
-    best : Best (sizesOf (madeWords sheet)) (entriesOf (madeWords sheet)) (tableAssignment left) (emptyWeight maxVariables (tableRows left))
+    plan : List ℕ
+    plan = rebuilt (sizesOf (madeWords sheet)) (ownRows left)
+
+    best : Best (sizesOf (madeWords sheet)) (entriesOf (madeWords sheet)) plan (emptyWeight (length (sizesOf (madeWords sheet))) (ownRows left))
+    unfolding plan
     best = upheld .1 .best no-pair
 
-    written : planCall left target ≡ record { number = 0; target = tableAssignment left ++ drop (length (sizesOf (madeWords sheet))) target }
-    written = upheld .1 .planWritten target (omega (arith, ap length same-sizes, accepted-sheet sheet fine .sizes .most)) no-pair
+    written : planCall left target ≡ record { number = 0; target = plan ++ drop (length (sizesOf (madeWords sheet))) target }
+    unfolding plan
+    written = upheld .1 .planWritten target (omega (arith, ap length same-sizes)) no-pair
 
-    front : take (length (sheetSizes sheet)) (planCall left target .target) ≡ tableAssignment left
+    front : take (length (sheetSizes sheet)) (planCall left target .target) ≡ plan
     front =
-        let many : length (tableAssignment left) ≡ length (sheetSizes sheet) = omega (arith, ap length same-sizes, along-length (best .inRange)) in
-        rw written (take-at (tableAssignment left) (drop (length (sizesOf (madeWords sheet))) target) _ many)
+        let many : length (plan) ≡ length (sheetSizes sheet) = omega (arith, ap length same-sizes, along-length (best .inRange)) in
+        rw written (take-at (plan) (drop (length (sizesOf (madeWords sheet))) target) _ many)
 
     plan-best : Best (sizesOf (madeWords sheet)) (entriesOf (madeWords sheet)) (take (length (sheetSizes sheet)) (planCall left target .target))
         (runCall (encodeCall (madeWords sheet) t .table) limit slice .answer .bound)

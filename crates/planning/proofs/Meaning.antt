@@ -16,6 +16,7 @@ use Rattle.sheet.specs.Calls.{Made, makeCall}
 use Rattle.sheet.proofs.Reading.{made-accepted}
 use Rattle.encoding.specs.Calls.{encodedRows, encodeCall}
 use Rattle.resolution.specs.declared.Outcome.{Outcome}
+use Rattle.resolution.specs.Numbers.{outcomeNumber}
 use Rattle.resolution.specs.Calls.{RunReturned, runCall}
 use Rattle.assignment.specs.Calls.{planCall}
 use Rattle.checker.proofs.Encoded.{encodes, encode-tests, coded}
@@ -48,7 +49,7 @@ module _ (sheet instance table slice : List ℕ) (li : length instance ≡ buffe
   module _ (fine : sheetFault sheet ≡ 0) (short : length (madeWords sheet) ≤ bufferWords) where
     run-means : encodeCall (madeWords sheet) table .answer .number ≡ 0
         → SheetMeans sheet (solveTable stepLimit (encodeCall (madeWords sheet) table .table) slice .answer)
-    unfolding solveTable endedSolved finishedSolved
+    unfolding solveTable endedSolved finishedSolved outcomeNumber
     run-means e = go (r .answer .outcome) refl
       where
         r : RunReturned
@@ -70,7 +71,7 @@ module _ (sheet instance table slice : List ℕ) (li : length instance ≡ buffe
 
         go : (o : Outcome) → r .answer .outcome ≡ o → SheetMeans sheet (endedSolved (r .table) (r .answer .steps) (r .answer .bound) o)
         go Outcome.Done f =
-            let (number, best) = doneIsBest sheet table slice (replicate 12 0) stepLimit fine e f refl in
+            let (number, best) = doneIsBest sheet table slice (replicate 12 0) stepLimit fine e f (accepted-sheet sheet fine .sizes .most) in
             rw (eq-eqb (planCall (r .table) (replicate 12 0) .number) 0 number)
             (planned (planCall (r .table) (replicate 12 0) .target) (r .answer .steps) (r .answer .bound) held best (rw (← f) ran))
         go Outcome.Paused f = paused (r .answer .steps) (r .answer .bound) held below (rw (← f) ran)

@@ -5,29 +5,32 @@ use mathlib.Core.List.{List}
 use lib.ListN.{length, take, replicate}
 use borrow.Author.Tests.{eq-eqb, ne-eqb, lt-ltb, le-ltb}
 use Rattle.fields.specs.declared.Answer.{Answer}
-use Rattle.sheet.specs.Calls.{makeCall}
-use Rattle.encoding.specs.Calls.{encodeCall}
+use Rattle.sheet.specs.Calls.{Made, makeCall}
+use Rattle.encoding.specs.Calls.{EncodeReturned, encodeCall}
 use Rattle.resolution.specs.declared.Outcome.{Outcome}
 use Rattle.resolution.specs.declared.RunAnswer.{RunAnswer}
-use Rattle.resolution.specs.Calls.{runCall}
-use Rattle.assignment.specs.Calls.{planCall}
+use Rattle.resolution.specs.Calls.{RunReturned, runCall}
+use Rattle.assignment.specs.Calls.{PlanReturned, planCall}
 use Rattle.planning.specs.declared.Ending.{Ending}
 use Rattle.planning.specs.declared.Solved.{Solved}
 use Rattle.planning.specs.Words.{wordsIn}
-use Rattle.planning.specs.Solving.{bufferWords, tableBuffer, stepLimit, refusedSolved, stoppedSolved, plannedSolved, finishedSolved, endedSolved, TableSolved, solveTable, solveInstance, SheetSolved, withInstance, solveCall, solvedOf}
+use Rattle.planning.specs.Solving.{bufferWords, tableBuffer, stepLimit, refusedSolved, stoppedSolved, plannedSolved, finishedSolved, endedSolved, TableSolved, solveTable, solveInstance, SolveReturned, withInstance, solveCall, solvedOf}
 use Rattle.sheet.proofs.MakeTests.{MadeIn, making, made-in}
 
 -- ---- what a run came to
 
-module _ (table : List ℕ) (steps bound k : ℕ) (e : k ≡ planCall table (replicate 12 0) .number) where
+module _ (table : List ℕ) (steps bound k : ℕ) (target : List ℕ)
+    (called : _≡_ {A = PlanReturned} (record { number = k; target = target }) (planCall table (replicate 12 0))) where
+  e : k ≡ planCall table (replicate 12 0) .number
+  e = ap (λ r. r .number) called
+
   pub finished-refused : (s : Solved) → (k ≡ 0 → ⊥) → s ≡ refusedSolved k → s ≡ finishedSolved table steps bound
   unfolding finishedSolved
   finished-refused s n f = rw (← e, ne-eqb k 0 n) f
 
-  pub finished-planned : (target : List ℕ) → target ≡ planCall table (replicate 12 0) .target → k ≡ 0
-      → plannedSolved target steps bound ≡ finishedSolved table steps bound
+  pub finished-planned : k ≡ 0 → plannedSolved target steps bound ≡ finishedSolved table steps bound
   unfolding finishedSolved
-  finished-planned target f z = rw (← e, eq-eqb k 0 z, f)
+  finished-planned z = let f : target ≡ planCall table (replicate 12 0) .target = ap (λ r. r .target) called in rw (← e, eq-eqb k 0 z, f)
 
 module _ (table : List ℕ) (steps bound : ℕ) (o : Outcome) (s : Solved) where
   pub ended-done : o ≡ Outcome.Done → s ≡ finishedSolved table steps bound → s ≡ endedSolved table steps bound o
@@ -48,48 +51,63 @@ module _ (table : List ℕ) (steps bound : ℕ) (o : Outcome) (s : Solved) where
 
 -- ---- a table run
 
-pub table-run : (limit : ℕ) (table steps : List ℕ) (ran : RunAnswer) (table′ steps′ : List ℕ) (s : Solved) → ran ≡ runCall table limit steps .answer
-    → table′ ≡ runCall table limit steps .table → steps′ ≡ runCall table limit steps .slice
-    → s ≡ endedSolved table′ (ran .steps) (ran .bound) (ran .outcome)
+pub table-run : (limit : ℕ) (table steps : List ℕ) (ran : RunAnswer) (table′ steps′ : List ℕ) (s : Solved)
+    → _≡_ {A = RunReturned} (record { answer = ran; table = table′; slice = steps′ }) (runCall table limit steps) → s ≡ endedSolved table′ (ran .steps) (ran .bound) (ran .outcome)
     → _≡_ {A = TableSolved} (record { answer = s; table = table′; steps = steps′ }) (solveTable limit table steps)
 unfolding solveTable
-table-run limit table steps ran table′ steps′ s e f g h = rw (h, e, f, g)
+table-run limit table steps ran table′ steps′ s called h =
+    let e : ran ≡ runCall table limit steps .answer = ap (λ r. r .answer) called in
+    let f : table′ ≡ runCall table limit steps .table = ap (λ r. r .table) called in
+    let g : steps′ ≡ runCall table limit steps .slice = ap (λ r. r .slice) called in
+    rw (h, e, f, g)
 
 -- ---- an instance encoded
 
 module _ (instance : List ℕ) (limit : ℕ) (table steps : List ℕ) (answer : Answer) (table′ : List ℕ) (s : Solved)
-    (e : answer ≡ encodeCall instance table .answer) (f : table′ ≡ encodeCall instance table .table) where
+    (called : _≡_ {A = EncodeReturned} (record { answer = answer; table = table′ }) (encodeCall instance table)) where
+  coding : answer ≡ encodeCall instance table .answer
+  coding = ap (λ r. r .answer) called
+
+  coded : table′ ≡ encodeCall instance table .table
+  coded = ap (λ r. r .table) called
+
   pub instance-refused : (answer .number ≡ 0 → ⊥) → s ≡ refusedSolved (answer .number)
       → _≡_ {A = TableSolved} (record { answer = s; table = table′; steps = steps }) (solveInstance instance limit table steps)
   unfolding solveInstance
-  instance-refused n h = rw (← e, ne-eqb (answer .number) 0 n, h, f)
+  instance-refused n h = rw (← coding, ne-eqb (answer .number) 0 n, h, coded)
 
   pub instance-run : (table″ steps″ : List ℕ) → answer .number ≡ 0
       → _≡_ {A = TableSolved} (record { answer = s; table = table″; steps = steps″ }) (solveTable limit table′ steps)
       → _≡_ {A = TableSolved} (record { answer = s; table = table″; steps = steps″ }) (solveInstance instance limit table steps)
   unfolding solveInstance
-  instance-run table″ steps″ z h = rw (← e, eq-eqb (answer .number) 0 z, ← f) h
+  instance-run table″ steps″ z h = rw (← coding, eq-eqb (answer .number) 0 z, ← coded) h
 
 -- ---- a sheet made an instance
 
-module _ (sheet target : List ℕ) (answer : Answer) (target′ : List ℕ) (e : answer ≡ makeCall sheet target .answer)
-    (f : target′ ≡ makeCall sheet target .target) where
+module _ (sheet target : List ℕ) (answer : Answer) (target′ : List ℕ)
+    (called : _≡_ {A = Made} (record { answer = answer; target = target′ }) (makeCall sheet target)) where
+  making-answer : answer ≡ makeCall sheet target .answer
+  making-answer = ap (λ r. r .answer) called
+
+  making-target : target′ ≡ makeCall sheet target .target
+  making-target = ap (λ r. r .target) called
+
   pub sheet-made : answer .number ≡ 0 → MadeIn sheet target (answer .value) target′
-  sheet-made z = rw (e, f) (made-in sheet target (makeCall sheet target) (making sheet target) (rw e at z))
+  sheet-made z = rw (making-answer, making-target) (made-in sheet target (makeCall sheet target) (making sheet target) (rw making-answer at z))
 
   module _ (limit : ℕ) (table steps : List ℕ) (s : Solved) where
     pub sheet-refused : (answer .number ≡ 0 → ⊥) → s ≡ refusedSolved (answer .number)
-        → _≡_ {A = SheetSolved} (record { answer = s; instance = target′; table = table; steps = steps }) (solveCall sheet limit target table steps)
+        → _≡_ {A = SolveReturned} (record { answer = s; instance = target′; table = table; steps = steps }) (solveCall sheet limit target table steps)
     unfolding solveCall
-    sheet-refused n h = rw (← e, ne-eqb (answer .number) 0 n, h, f)
+    sheet-refused n h = rw (← making-answer, ne-eqb (answer .number) 0 n, h, making-target)
 
     pub sheet-run : (table′ steps′ : List ℕ) → answer .number ≡ 0
         → _≡_ {A = TableSolved} (record { answer = s; table = table′; steps = steps′ })
         (solveInstance (take (answer .value) target′) limit table steps)
-        → _≡_ {A = SheetSolved} (record { answer = s; instance = target′; table = table′; steps = steps′ })
+        → _≡_ {A = SolveReturned} (record { answer = s; instance = target′; table = table′; steps = steps′ })
         (solveCall sheet limit target table steps)
     unfolding solveCall
-    sheet-run table′ steps′ z h = rw (← e, eq-eqb (answer .number) 0 z, ← f) (ap (withInstance target′) h)
+    sheet-run table′ steps′ z h = rw (← making-answer, eq-eqb (answer .number) 0 z, ← making-target) (ap (withInstance target′) h)
 
 -- ---- bytes
 
@@ -104,9 +122,9 @@ module _ (bytes : List ℕ) (s : Solved) where
     bytes-odd n e = rw (le-ltb (4 * bufferWords) (length bytes) h, ne-eqb (length bytes % 4) 0 n) e
 
     pub bytes-read : (words instance table steps : List ℕ) → length bytes % 4 ≡ 0 → words ≡ wordsIn bytes
-        → _≡_ {A = SheetSolved} (record { answer = s; instance = instance; table = table; steps = steps })
+        → _≡_ {A = SolveReturned} (record { answer = s; instance = instance; table = table; steps = steps })
         (solveCall words stepLimit (replicate bufferWords 0) (replicate tableBuffer 0) (replicate bufferWords 0))
         → s ≡ solvedOf bytes
     unfolding solvedOf
     bytes-read words instance table steps z e f =
-        rw (le-ltb (4 * bufferWords) (length bytes) h, eq-eqb (length bytes % 4) 0 z, ← e) (ap (λ (r : SheetSolved). r .answer) f)
+        rw (le-ltb (4 * bufferWords) (length bytes) h, eq-eqb (length bytes % 4) 0 z, ← e) (ap (λ (r : SolveReturned). r .answer) f)

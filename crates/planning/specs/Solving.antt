@@ -81,17 +81,17 @@ solveInstance instance limit table steps =
     cond (eqb (coded .answer .number) 0) (solveTable limit (coded .table) steps)
     (record { answer = refusedSolved (coded .answer .number); table = coded .table; steps = steps })
 
-pub record SheetSolved : Type 0 where
+pub record SolveReturned : Type 0 where
   pub answer : Solved
   pub instance : List ℕ
   pub table : List ℕ
   pub steps : List ℕ
 
-abbrev pub withInstance : List ℕ → TableSolved → SheetSolved
+abbrev pub withInstance : List ℕ → TableSolved → SolveReturned
 withInstance instance s = record { answer = s .answer; instance = instance; table = s .table; steps = s .steps }
 
 -- a sheet made an instance in a buffer, of which the front is encoded and run
-unfoldable pub solveCall : List ℕ → ℕ → List ℕ → List ℕ → List ℕ → SheetSolved
+unfoldable pub solveCall : List ℕ → ℕ → List ℕ → List ℕ → List ℕ → SolveReturned
 solveCall sheet limit instance table steps =
     let made = makeCall sheet instance in
     cond (eqb (made .answer .number) 0)

@@ -6,7 +6,6 @@ use lib.ListN.{length, take}
 use Rattle.wcsp.specs.Clause.{InRange}
 use Rattle.wcsp.specs.Row.{Row, emptyWeight}
 use Rattle.wcsp.specs.Entry.{Entry, cost}
-use Rattle.fields.specs.Limits.{maxVariables}
 use Rattle.sheet.specs.Sheet.{sheetFault, sheetSizes}
 use Rattle.input.specs.Instance.{sizesOf, entriesOf}
 use Rattle.table.specs.Layout.{capacity}
@@ -17,19 +16,19 @@ use Rattle.resolution.specs.Calls.{runCall}
 use Rattle.assignment.specs.Calls.{planCall}
 use Rattle.checker.specs.Theorems.{Best}
 use Rattle.calls.specs.Calls.{Derives}
-use Rattle.calls.specs.Demand.{domainsOf, RunEnds}
+use Rattle.calls.specs.Demand.{RunEnds}
 use Rattle.planning.specs.declared.Ending.{Ending}
 use Rattle.planning.specs.declared.Solved.{Solved}
 use Rattle.planning.specs.Words.{wordsIn}
 use Rattle.planning.specs.Solving.{bufferWords, tableBuffer, stepLimit, refusedSolved, stoppedSolved, plannedSolved, endingNumber, solveCall, solvedOf}
 
 -- for every accepted sheet, every table that takes its encoding, every limit and slice: once the run is done, the plan call is good, the bytes
--- that it writes to a target of twelve are an assignment of least cost, and that cost is the bound that the run returned
+-- that it writes to a target with room for them are an assignment of least cost, and that cost is the bound that the run returned
 abbrev pub DoneIsBest : Type 0
 DoneIsBest = (sheet t slice target : List ℕ) (limit : ℕ) → sheetFault sheet ≡ 0 → encodeCall (madeWords sheet) t .answer .number ≡ 0
     → let r = runCall (encodeCall (madeWords sheet) t .table) limit slice in
     r .answer .outcome ≡ Outcome.Done
-    → length target ≡ 12
+    → length (sheetSizes sheet) ≤ length target
     → (planCall (r .table) target .number ≡ 0)
     × Best (sizesOf (madeWords sheet)) (entriesOf (madeWords sheet)) (take (length (sheetSizes sheet)) (planCall (r .table) target .target))
     (r .answer .bound)
@@ -43,10 +42,10 @@ NoneBelow ds es b = (p : List ℕ) → InRange ds p → b ≤ cost es p
 pub record RunFrom (inst : List ℕ) (steps bound : ℕ) (o : Outcome) : Type 0 where
   pub words : List ℕ
   pub rows : List Row
-  pub derived : Derives (domainsOf inst) (encodedRows inst) words rows
+  pub derived : Derives (sizesOf inst) (encodedRows inst) words rows
   pub made : length words ≡ steps
-  pub weight : emptyWeight maxVariables rows ≡ bound
-  pub ends : RunEnds (domainsOf inst) (capacity tableBuffer (length (sizesOf inst))) stepLimit steps rows o
+  pub weight : emptyWeight (length (sizesOf inst)) rows ≡ bound
+  pub ends : RunEnds (sizesOf inst) (capacity tableBuffer (length (sizesOf inst))) stepLimit steps rows o
 
 -- an accepted sheet whose instance the program's buffer holds, and its table the rows of the encoding
 pub record Held (sheet : List ℕ) : Type 0 where

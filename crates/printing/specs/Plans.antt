@@ -1,4 +1,4 @@
--- What the text takes of a plan.
+-- Inner: what the text takes of a plan.
 use Prim.Native.Nat.{ℕ, _≤_, _<_}
 use mathlib.Core.Path.{_≡_}
 use mathlib.Core.List.{List}

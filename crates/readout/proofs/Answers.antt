@@ -14,6 +14,7 @@ use Rattle.fields.specs.Limits.{maxVariables}
 use Rattle.fields.specs.Assignment.{isAssignment}
 use Rattle.fields.specs.Answers.{refused, good}
 use Rattle.fields.proofs.Assigning.{in-range-of}
+use Rattle.distance.specs.Metres.{maxOffset}
 use Rattle.sheet.specs.declared.SheetRead.{SheetRead}
 use Rattle.sheet.specs.Sheet.{coordinateIn, sheetFault, sheetSizes}
 use Rattle.sheet.specs.Made.{travel}
@@ -86,7 +87,7 @@ module _ (sheet plan : List ℕ) (v easting northing : ℕ) (read : SheetRead) (
             value-inside = omega (arith, along-length chosen, inside)
 
             pub asked : (sheetFault sheet ≡ 0)
-                × (((v < length (sheetSizes sheet)) × (getD plan v 0 < getD (sheetSizes sheet) v 0)) × ((east ≤ 2000000) × (north ≤ 2000000)))
+                × (((v < length (sheetSizes sheet)) × (getD plan v 0 < getD (sheetSizes sheet) v 0)) × ((east ≤ maxOffset) × (north ≤ maxOffset)))
             asked =
                 let x = place-found 8 easting q e east f in
                 let y = place-found 9 northing q′ e′ north f′ in

@@ -1,2 +1,3 @@
 -- The laws of this crate that belong to no one function.
 mod Answers
+pub mod Order

@@ -1,2 +1,3 @@
 -- The readout: metres from the vehicle to the next sample.
 pub mod Calls
+pub mod Order

@@ -2,6 +2,7 @@
 ghost use mathlib.Core.Path.{_≡_};
 ghost use Prim.Native.Nat.{_<_, _≤_};
 ghost use lib.ListN.{length, getD};
+ghost use Rattle.distance.specs.Metres.{maxOffset};
 ghost use Rattle.sheet.specs.Sheet.{sheetFault, sheetSizes};
 ghost use Rattle.sheet.specs.Made.{travel};
 ghost use Rattle.sheet.specs.Calls.{positionIn};
@@ -16,7 +17,7 @@ use words::Coordinate;
 fn metres_to(sheet: &[u32], variable: u32, value: u8, east: u32, north: u32) -> u32
     requires { ⌜ sheetFault (now sheet) ≡ 0 ⌝ }
     requires { ⌜ (variable < length (sheetSizes (now sheet))) × (value < getD (sheetSizes (now sheet)) variable 0) ⌝ }
-    requires { ⌜ (east ≤ 2000000) × (north ≤ 2000000) ⌝ }
+    requires { ⌜ (east ≤ maxOffset) × (north ≤ maxOffset) ⌝ }
     ensures { λ r. ⌜ r ≡ travel (record { easting = east; northing = north }) (positionIn (now (sheet .entry)) variable value) ⌝ }
 {
     let place = sheet::position(sheet, variable, value as u32);

@@ -18,51 +18,53 @@ use Rattle.wcsp.proofs.PairFound.{pairIn-is, pairIn-is-none}
 use Rattle.wcsp.proofs.Settled.{settled-kept}
 use Rattle.wcsp.proofs.Cleared.{first-in, second-in, passed-before, passed-here}
 use Rattle.clause.specs.declared.Clause.{Clause}
-use Rattle.clause.specs.Packed.{Packed}
+use Rattle.clause.specs.Packed.{FitsBlocks}
 use Rattle.rows.specs.Raw.{rowWidth}
 use Rattle.table.specs.declared.Shape.{Shape}
 use Rattle.table.specs.Layout.{tableWords}
-use Rattle.table.specs.Meaning.{variablesOf, rowCount, tableSizes, tableRows, domains}
+use Rattle.table.specs.Meaning.{variablesOf, rowCount, tableSizes, tableRows, domains, capacityOf}
 use Rattle.table.specs.Valid.{validTable}
-use Rattle.table.specs.Check.{fullClause, shapeOf, capacityOf}
-use Rattle.table.proofs.Canonical.{validIsCanonical}
+use Rattle.table.specs.Check.{fullClause, shapeOf}
+use Rattle.table.proofs.Canonical.{twelveIsCanonical}
 use Rattle.table.proofs.Reading.{ready, find-room}
 use Rattle.hunt.specs.declared.Hunted.{Hunted}
 use Rattle.hunt.specs.declared.Hunted.the-variants.{Next, Nothing}
 use Rattle.hunt.specs.Hunt.{Cleared, Settled}
-use Rattle.stepping.specs.Step.{refusing, stepping, allowed, pairWord}
-use Rattle.stepping.specs.Advance.{withRows}
+use Rattle.stepping.specs.Step.{refusing, stepsTo, allowed, pairWord, withRows}
 use Rattle.stepping.proofs.Answers.{Advances}
 use Rattle.stepping.proofs.Following.{following}
 use Rattle.resolution.specs.declared.Outcome.{Outcome}
 use Rattle.resolution.specs.declared.RunAnswer.{RunAnswer}
 use Rattle.resolution.specs.Step.{oneStep}
-use Rattle.resolution.specs.Run.{Ending, done, paused, stopped, Ran, after, atLimit, runRows, resumed}
-use Rattle.resolution.specs.Calls.{outcomeOf, runReturns, runCall}
-use Rattle.resolution.proofs.Single.{fulls-packed, Hunts, hunt-none, hunt-some, permitted, no-step, next-step, settled-start, cleared-start}
+use Rattle.resolution.specs.Run.{Ran, after, atLimit, runRows}
+use Rattle.resolution.specs.Calls.{RunReturned, runReturns, runCall}
+use Rattle.resolution.specs.Twelve.{runTwelve, resumed}
+use Rattle.resolution.proofs.Stepped.{no-step, next-step}
+use Rattle.resolution.proofs.Own.{run-own}
+use Rattle.resolution.proofs.Single.{fulls-packed, Hunts, hunt-none, hunt-some, permitted, settled-start, cleared-start}
 
 -- ---- a run's next turn
 
 module _ (ds : List ℕ) (cap k : ℕ) (rs : List Row) (words : List ℕ) where
-  pub run-done : nextPair ds rs ≡ none → runRows ds cap k rs words ≡ record { ending = done; rows = rs; made = words }
+  pub run-done : nextPair ds rs ≡ none → runRows ds cap k rs words ≡ record { outcome = Outcome.Done; rows = rs; made = words }
   unfolding runRows after atLimit
   run-done e = go k
     where
-      go : (k : ℕ) → runRows ds cap k rs words ≡ record { ending = done; rows = rs; made = words }
+      go : (k : ℕ) → runRows ds cap k rs words ≡ record { outcome = Outcome.Done; rows = rs; made = words }
       go zero = rw e
       go (suc m) = rw (no-step ds cap rs e)
 
-  pub run-paused : (pr : Pair) → nextPair ds rs ≡ some pr → k ≡ 0 → runRows ds cap k rs words ≡ record { ending = paused; rows = rs; made = words }
+  pub run-paused : (pr : Pair) → nextPair ds rs ≡ some pr → k ≡ 0 → runRows ds cap k rs words ≡ record { outcome = Outcome.Paused; rows = rs; made = words }
   unfolding runRows atLimit
   run-paused pr e z = rw (z, e)
 
   module _ (m : ℕ) (z : k ≡ suc m) where
-    pub run-stopped : (number : ℕ) → oneStep ds cap rs ≡ refusing number
-        → runRows ds cap k rs words ≡ record { ending = stopped number; rows = rs; made = words }
+    pub run-stopped : (number : ℕ) → oneStep ds cap rs ≡ some (refusing number)
+        → runRows ds cap k rs words ≡ record { outcome = Outcome.Refused number; rows = rs; made = words }
     unfolding runRows after
     run-stopped number e = rw (z, e)
 
-    pub run-on : (pr : Pair) (rs′ : List Row) → oneStep ds cap rs ≡ stepping pr rs′
+    pub run-on : (pr : Pair) (rs′ : List Row) → oneStep ds cap rs ≡ some (stepsTo pr rs′)
         → runRows ds cap k rs words ≡ runRows ds cap m rs′ (words ++ (pairWord pr ∷ []))
     unfolding runRows after
     run-on pr rs′ e = ap (λ n. runRows ds cap n rs words) z ∙ ap (after _ _ _) e
@@ -193,17 +195,20 @@ module _ {t₀ : List ℕ} {most : ℕ} {slice₀ t slice : List ℕ} {count buc
 
   pub going-canonical : t ≡ withRows t₀ (tableRows t)
   going-canonical =
-      validIsCanonical t (g .valid) .words ∙ ap₂ (λ n s. tableWords n s (tableRows t)) (g .long) (g .sizes)
+      twelveIsCanonical t (g .valid) .words ∙ ap₂ (λ n s. tableWords n s (tableRows t)) (g .long) (g .sizes)
 
   -- what the run must give back
   abbrev pub Gives : RunAnswer → List ℕ → List ℕ → Type 0
-  Gives r t′ slice′ = (r ≡ runReturns t₀ slice₀ whole .answer) × (t′ ≡ runReturns t₀ slice₀ whole .table) × (slice′ ≡ runReturns t₀ slice₀ whole .slice)
+  Gives r t′ slice′ = _≡_ {A = RunReturned} (record { answer = r; table = t′; slice = slice′ }) (runReturns 12 t₀ slice₀ whole)
 
-  gives : (e : Ending) (r : RunAnswer) (t′ : List ℕ) → whole ≡ record { ending = e; rows = tableRows t; made = g .words }
-      → r ≡ record { outcome = outcomeOf e; steps = made; bound = emptyWeight 12 (tableRows t) } → t′ ≡ t → Gives r t′ slice
+  gives : (e : Outcome) (r : RunAnswer) (t′ : List ℕ) → whole ≡ record { outcome = e; rows = tableRows t; made = g .words }
+      → r ≡ record { outcome = e; steps = made; bound = emptyWeight 12 (tableRows t) } → t′ ≡ t → Gives r t′ slice
   gives e r t′ w a b =
       let s = g .steps in
-      (rw (w, s) a, rw w (b ∙ going-canonical), rw (w, s) (g .sliced))
+      let c : t′ ≡ withRows t₀ (tableRows t) = b ∙ going-canonical in
+      let d : slice ≡ g .words ++ drop (length (g .words)) slice₀ = rw s (g .sliced) in
+      let f : r ≡ record { outcome = e; steps = length (g .words); bound = emptyWeight 12 (tableRows t) } = rw s a in
+      rw w (λ i. record { answer = f i; table = c i; slice = d i })
 
   -- what the calls of a turn ask for, with the front and the full signs of the first table
   module _ {base : ℕ} (b : base ≡ variablesOf t₀ + 2) {fulls : Clause} (f : fulls ≡ fullClause (domains t₀)) where
@@ -213,7 +218,7 @@ module _ {t₀ : List ℕ} {most : ℕ} {slice₀ t slice : List ℕ} {count buc
     fulls-here : fulls ≡ fullClause (domains t)
     fulls-here = f ∙ ap fullClause (sym (g .domained))
 
-    pub hunt-asks : (base + rowWidth * count ≤ length t) × Packed fulls × (bucket ≤ 12)
+    pub hunt-asks : (base + rowWidth * count ≤ length t) × FitsBlocks fulls × (bucket ≤ 12)
     hunt-asks = (
       find-room t (g .valid) base count base-here (g .counted),
       fulls-packed t (g .valid) base count base-here (g .counted) fulls fulls-here,
@@ -244,16 +249,14 @@ module _ {t₀ : List ℕ} {most : ℕ} {slice₀ t slice : List ℕ} {count buc
 
   pub gives-done : nextPair (domains t) (tableRows t) ≡ none → (r : RunAnswer)
       → r ≡ record { outcome = Outcome.Done; steps = made; bound = emptyWeight 12 (tableRows t) } → Gives r t slice
-  unfolding outcomeOf
-  gives-done e r a = gives done r t (g .goes ∙ run-done (domains t) (capacityOf t) (most - made) (tableRows t) (g .words) e) a refl
+  gives-done e r a = gives Outcome.Done r t (g .goes ∙ run-done (domains t) (capacityOf t) (most - made) (tableRows t) (g .words) e) a refl
 
   module _ (pr : Pair) (next : nextPair (domains t) (tableRows t) ≡ some pr) where
     pub gives-paused : made ≡ most → (r : RunAnswer)
         → r ≡ record { outcome = Outcome.Paused; steps = made; bound = emptyWeight 12 (tableRows t) } → Gives r t slice
-    unfolding outcomeOf
     gives-paused h r a =
         let z : most - made ≡ 0 = omega arith in
-        gives paused r t (g .goes ∙ run-paused (domains t) (capacityOf t) (most - made) (tableRows t) (g .words) pr next z) a refl
+        gives Outcome.Paused r t (g .goes ∙ run-paused (domains t) (capacityOf t) (most - made) (tableRows t) (g .words) pr next z) a refl
 
     module _ (h : made < most) where
       one-left : most - made ≡ suc (most - (made + 1))
@@ -262,26 +265,25 @@ module _ {t₀ : List ℕ} {most : ℕ} {slice₀ t slice : List ℕ} {count buc
       pub gives-refused : (k : ℕ) (t′ : List ℕ)
           → (allowed (capacityOf t) pr (resolve (domains t) pr (tableRows t)) ≡ refusing k) × (t′ ≡ t) → (r : RunAnswer) (number : ℕ) → number ≡ k
           → r ≡ record { outcome = Outcome.Refused number; steps = made; bound = emptyWeight 12 (tableRows t′) } → Gives r t′ slice
-      unfolding outcomeOf
       gives-refused k t′ (a, b) r number q p =
-          gives (stopped k) r t′
+          gives (Outcome.Refused k) r t′
           (g .goes ∙ run-stopped (domains t) (capacityOf t) (most - made) (tableRows t) (g .words) (most - (made + 1)) one-left k
-          (next-step (domains t) (capacityOf t) (tableRows t) pr next ∙ a))
+          (next-step (domains t) (capacityOf t) (tableRows t) pr next ∙ ap some a))
           (p ∙ ap₂ (λ m u. record { outcome = Outcome.Refused m; steps = made; bound = emptyWeight 12 (tableRows u) }) q b) b
 
-      pub going-on : (now old : ℕ) (t′ : List ℕ) → Advances t pr now old t′ → (w : ℕ) → w ≡ pairWord pr
+      pub going-on : (now : ℕ) (t′ : List ℕ) → Advances t pr now t′ → (w : ℕ) → w ≡ pairWord pr
           → (from′ : ℕ) → from′ ≡ resumed (tableRows t) (pr .first) (pr .second)
           → Going t₀ most slice₀ t′ (set slice made w) now (pr .variable) (pr .first) from′ (made + 1)
-      going-on now old t′ a w p from′ z =
-          let f = following t (g .valid) pr (permitted t (g .valid) pr next) now old t′ a in
+      going-on now t′ a w p from′ z =
+          let f = following t (g .valid) pr (permitted t (g .valid) pr next) now t′ a in
           let one : made + 1 ≡ suc made = omega arith in
           let fits : made < length slice₀ = omega (arith, g .room, h) in
           let d = f .domained in
           let rows = f .rows in
           let c = f .capacious in
           let sliced = g .sliced in
-          let e : oneStep (domains t) (capacityOf t) (tableRows t) ≡ stepping pr (resolve (domains t) pr (tableRows t))
-          = next-step (domains t) (capacityOf t) (tableRows t) pr next ∙ a .is in
+          let e : oneStep (domains t) (capacityOf t) (tableRows t) ≡ some (stepsTo pr (resolve (domains t) pr (tableRows t)))
+          = next-step (domains t) (capacityOf t) (tableRows t) pr next ∙ ap some (a .is) in
           record {
             words = g .words ++ (w ∷ []);
             valid = f .valid;
@@ -308,18 +310,16 @@ module _ {t₀ : List ℕ} {most : ℕ} {slice₀ t slice : List ℕ} {count buc
 -- what a run call must give back
 abbrev pub Ran-as : List ℕ → ℕ → List ℕ → RunAnswer → List ℕ → List ℕ → Type 0
 Ran-as t limit slice r t′ slice′ =
-    (r ≡ runCall t limit slice .answer) × (t′ ≡ runCall t limit slice .table) × (slice′ ≡ runCall t limit slice .slice)
+    _≡_ {A = RunReturned} (record { answer = r; table = t′; slice = slice′ }) (runCall t limit slice)
 
 pub ran-invalid : (t : List ℕ) (limit : ℕ) (slice : List ℕ) → validTable t ≡ false
     → Ran-as t limit slice (record { outcome = Outcome.Refused 9; steps = 0; bound = 0 }) t slice
 unfolding runCall
-ran-invalid t limit slice e = (rw e, rw e, rw e)
+ran-invalid t limit slice e = rw e
 
 pub ran-valid : (t : List ℕ) (limit : ℕ) (slice : List ℕ) → validTable t ≡ true → (most : ℕ) → most ≡ min limit (length slice)
     → (r : RunAnswer) (t′ slice′ : List ℕ)
-    → (r ≡ runReturns t slice (runRows (domains t) (capacityOf t) most (tableRows t) []) .answer)
-    × (t′ ≡ runReturns t slice (runRows (domains t) (capacityOf t) most (tableRows t) []) .table)
-    × (slice′ ≡ runReturns t slice (runRows (domains t) (capacityOf t) most (tableRows t) []) .slice)
+    → _≡_ {A = RunReturned} (record { answer = r; table = t′; slice = slice′ }) (runTwelve t most slice)
     → Ran-as t limit slice r t′ slice′
 unfolding runCall
-ran-valid t limit slice v most m r t′ slice′ p = rw (v, ← m) p
+ran-valid t limit slice v most m r t′ slice′ p = rw (v, ← m) (p ∙ run-own t v most slice)

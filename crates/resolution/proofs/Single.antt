@@ -6,17 +6,17 @@ use mathlib.Core.Bool.{true, false}
 use mathlib.Core.List.{List}
 use mathlib.Core.Option.{Option, none, some}
 use lib.ListN.{length, drop}
-use Rattle.wcsp.specs.Row.{Row, ValidRows}
-use Rattle.wcsp.specs.Resolve.{Pair, nextPair, resolve, Permitted}
+use Rattle.wcsp.specs.Row.{ValidRows}
+use Rattle.wcsp.specs.Resolve.{Pair, nextPair, resolve, MayResolve}
 use Rattle.wcsp.proofs.NextPair.{next-permitted}
 use Rattle.clause.specs.declared.Clause.{Clause}
-use Rattle.clause.specs.Packed.{Packed, FullSigns}
+use Rattle.clause.specs.Packed.{FitsBlocks, FullSigns}
 use Rattle.rows.specs.Raw.{rowWidth}
 use Rattle.table.specs.declared.Shape.{Shape}
 use Rattle.table.specs.Layout.{capacityIn}
-use Rattle.table.specs.Meaning.{tableRowsIn, variablesOf, rowCount, rowsFrom, tableRows, domains}
+use Rattle.table.specs.Meaning.{tableRowsIn, variablesOf, rowCount, rowsFrom, tableRows, domains, capacityOf}
 use Rattle.table.specs.Valid.{validTable}
-use Rattle.table.specs.Check.{fullClause, shapeOf, capacityOf}
+use Rattle.table.specs.Check.{fullClause, shapeOf}
 use Rattle.table.proofs.Canonical.{passed}
 use Rattle.table.proofs.Reading.{ready, ready-shape, find-room}
 use Rattle.hunt.specs.declared.Hunted.{Hunted}
@@ -25,12 +25,14 @@ use Rattle.hunt.proofs.Climbing.{nothing-none}
 use Rattle.hunt.specs.Hunt.{huntedOf, Cleared, Settled}
 use Rattle.stepping.specs.declared.Advanced.{Advanced}
 use Rattle.stepping.specs.declared.Advanced.the-variants.{Made, Refused}
-use Rattle.stepping.specs.Step.{Stepping, finished, refusing, stepping, allowed, pairWord}
-use Rattle.stepping.specs.Advance.{advanceCall}
+use Rattle.stepping.specs.Step.{Stepping, refusing, stepsTo, pairWord}
+use Rattle.stepping.specs.Advance.{AdvanceReturned, advanceCall}
 use Rattle.stepping.proofs.Answers.{advance-made, advance-refused}
 use Rattle.resolution.specs.declared.StepAnswer.{StepAnswer}
-use Rattle.resolution.specs.Step.{onPair, oneStep}
-use Rattle.resolution.specs.Calls.{stepReturns, stepCall}
+use Rattle.resolution.specs.Step.{oneStep}
+use Rattle.resolution.specs.Calls.{StepReturned, stepReturns, stepCall}
+use Rattle.resolution.proofs.Stepped.{no-step, next-step}
+use Rattle.resolution.proofs.Own.{step-own}
 
 -- ---- the hunt
 
@@ -59,7 +61,7 @@ Hunts t base count fulls s skip from found =
 
 module _ (t : List ℕ) (v : validTable t ≡ true) (base count : ℕ) (b : base ≡ variablesOf t + 2) (n : count ≡ rowCount t) (fulls : Clause)
     (f : fulls ≡ fullClause (domains t)) where
-  pub fulls-packed : Packed fulls
+  pub fulls-packed : FitsBlocks fulls
   fulls-packed = rw f (ready t v .packed)
 
   rows-read : rowsFrom count (drop base t) ≡ tableRows t
@@ -102,7 +104,7 @@ module _ (t : List ℕ) (v : validTable t ≡ true) (shape : Shape) (e : shape �
   pub shape-fulls : shape .fulls ≡ fullClause (domains t)
   shape-fulls = ap (λ s. s .fulls) e
 
-  pub first-asks : (shape .variables + 2 + rowWidth * shape .count ≤ length t) × Packed (shape .fulls) × (0 ≤ 12)
+  pub first-asks : (shape .variables + 2 + rowWidth * shape .count ≤ length t) × FitsBlocks (shape .fulls) × (0 ≤ 12)
   first-asks = (
     find-room t v (shape .variables + 2) (shape .count) shape-front shape-count,
     fulls-packed t v (shape .variables + 2) (shape .count) shape-front shape-count (shape .fulls) shape-fulls,
@@ -130,7 +132,7 @@ pub record Numbers (rows v i j : ℕ) : Type 0 where
   pub most : rows ≤ 4096
 
 module _ (t : List ℕ) (v : validTable t ≡ true) (pr : Pair) (next : nextPair (domains t) (tableRows t) ≡ some pr) where
-  pub permitted : Permitted (domains t) (tableRows t) pr
+  pub permitted : MayResolve (domains t) (tableRows t) pr
   permitted = next-permitted (domains t) (tableRows t) pr next
 
   pub numbers : Numbers (rowCount t) (pr .variable) (pr .first) (pr .second)
@@ -146,45 +148,35 @@ module _ (t : List ℕ) (v : validTable t ≡ true) (pr : Pair) (next : nextPair
 
 -- ---- the step call
 
-pub no-step : (ds : List ℕ) (cap : ℕ) (rs : List Row) → nextPair ds rs ≡ none → oneStep ds cap rs ≡ finished
-unfolding oneStep onPair
-no-step ds cap rs e = rw e
-
-pub next-step : (ds : List ℕ) (cap : ℕ) (rs : List Row) (pr : Pair) → nextPair ds rs ≡ some pr → oneStep ds cap rs ≡ allowed cap pr (resolve ds pr rs)
-unfolding oneStep onPair
-next-step ds cap rs pr e = rw e
-
 -- what a step call must give back
 abbrev pub Called : List ℕ → StepAnswer → List ℕ → Type 0
-Called t answer t′ = (answer ≡ stepCall t .answer) × (t′ ≡ stepCall t .table)
+Called t answer t′ = _≡_ {A = StepReturned} (record { answer = answer; table = t′ }) (stepCall t)
 
 pub called-invalid : (t : List ℕ) → validTable t ≡ false → Called t (StepAnswer.Refused 9) t
 unfolding stepCall
-called-invalid t e = (rw e, rw e)
+called-invalid t e = rw e
 
 module _ (t : List ℕ) (v : validTable t ≡ true) where
-  called : (s : Stepping) → oneStep (domains t) (capacityOf t) (tableRows t) ≡ s → stepCall t ≡ stepReturns t s
+  called : (s : Option Stepping) → oneStep (domains t) (capacityOf t) (tableRows t) ≡ s → stepCall t ≡ stepReturns t s
   unfolding stepCall
-  called s e = rw (v, e)
+  called s e = rw v (sym (step-own t v) ∙ ap (stepReturns t) e)
 
   pub called-done : nextPair (domains t) (tableRows t) ≡ none → Called t StepAnswer.Done t
   unfolding stepReturns
-  called-done e =
-      let c = called finished (no-step (domains t) (capacityOf t) (tableRows t) e) in
-      (sym (ap (λ r. r .answer) c), sym (ap (λ r. r .table) c))
+  called-done e = sym (called none (no-step (domains t) (capacityOf t) (tableRows t) e))
 
   module _ (pr : Pair) (next : nextPair (domains t) (tableRows t) ≡ some pr) (answer : Advanced) (t′ : List ℕ)
-      (e : answer ≡ advanceCall t pr .answer) (f : t′ ≡ advanceCall t pr .table) where
+      (e : _≡_ {A = AdvanceReturned} (record { answer = answer; table = t′ }) (advanceCall t pr)) where
     pub called-refused : (k : ℕ) → answer ≡ Refused k → Called t (StepAnswer.Refused k) t′
     unfolding stepReturns
     called-refused k q =
-        let (a, b) = advance-refused t pr answer t′ e f k q in
-        let c = called (refusing k) (next-step (domains t) (capacityOf t) (tableRows t) pr next ∙ a) in
-        (sym (ap (λ r. r .answer) c), b ∙ sym (ap (λ r. r .table) c))
+        let (a, b) = advance-refused t pr answer t′ e k q in
+        let c = called (some (refusing k)) (next-step (domains t) (capacityOf t) (tableRows t) pr next ∙ ap some a) in
+        ap (λ u. record { answer = StepAnswer.Refused k; table = u }) b ∙ sym c
 
-    pub called-made : (now old w : ℕ) → answer ≡ Made now old → w ≡ pairWord pr → Called t (StepAnswer.Stepped w) t′
+    pub called-made : (now w : ℕ) → answer ≡ Made now → w ≡ pairWord pr → Called t (StepAnswer.Stepped w) t′
     unfolding stepReturns
-    called-made now old w q p =
-        let a = advance-made t pr answer t′ e f now old q in
-        let c = called (stepping pr (resolve (domains t) pr (tableRows t))) (next-step (domains t) (capacityOf t) (tableRows t) pr next ∙ a .is) in
-        (ap StepAnswer.Stepped p ∙ sym (ap (λ r. r .answer) c), a .table ∙ sym (ap (λ r. r .table) c))
+    called-made now w q p =
+        let a = advance-made t pr answer t′ e now q in
+        let c = called (some (stepsTo pr (resolve (domains t) pr (tableRows t)))) (next-step (domains t) (capacityOf t) (tableRows t) pr next ∙ ap some (a .is)) in
+        ap₂ (λ x u. record { answer = StepAnswer.Stepped x; table = u }) p (a .table) ∙ sym c

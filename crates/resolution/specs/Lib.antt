@@ -2,5 +2,8 @@
 pub mod Step
 pub mod Run
 pub mod Calls
+pub mod Twelve
 pub mod Numbers
 pub mod Theorems
+pub mod Order
+pub mod Witness

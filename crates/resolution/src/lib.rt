@@ -1,17 +1,16 @@
 // Steps and runs on a table that the caller lends.
 ghost use mathlib.Core.Path.{_≡_};
 ghost use mathlib.Core.Bool.{true};
-ghost use mathlib.Core.List.{[]};
 ghost use Prim.Native.Nat.{ℕ, _+_, _<_, _≤_};
 ghost use lib.ListN.{length};
 ghost use Rattle.wcsp.specs.Row.{emptyWeight};
 ghost use Rattle.fields.specs.Limits.{maxVariables};
-ghost use Rattle.table.specs.Meaning.{variablesOf, rowCount, tableRows, domains};
+ghost use Rattle.table.specs.Meaning.{variablesOf, rowCount, tableRows};
 ghost use Rattle.table.specs.Valid.{validTable};
-ghost use Rattle.table.specs.Check.{shapeOf, capacityOf};
+ghost use Rattle.table.specs.Check.{shapeOf};
 ghost use Rattle.stepping.specs.declared.Advanced.{Advanced};
-ghost use Rattle.resolution.specs.Run.{resumed, runRows};
-ghost use Rattle.resolution.specs.Calls.{stepCall, runReturns, runCall};
+ghost use Rattle.resolution.specs.Calls.{stepCall, runCall};
+ghost use Rattle.resolution.specs.Twelve.{runTwelve, resumed};
 use hunt::Hunted;
 use stepping::Advanced;
 use table::Checked;
@@ -40,7 +39,7 @@ pub struct RunAnswer {
 
 // One step call: 9; done; 11; 12; else one step.
 pub fn step(t: &mut [u32]) -> StepAnswer
-    ensures { λ r. ⌜ (r ≡ stepCall (now (t .entry)) .answer) × (now (t .exit) ≡ stepCall (now (t .entry)) .table) ⌝ }
+    ensures { λ r. ⌜ record { answer = r; table = now (t .exit) } ≡ stepCall (now (t .entry)) ⌝ }
 {
     let checked = table::check(t);
     let Checked::Table(shape) = checked else {
@@ -54,17 +53,17 @@ pub fn step(t: &mut [u32]) -> StepAnswer
     };
     let advanced = stepping::advance(t, shape, v, i, j);
     match advanced {
-        Advanced::Made(_, _) => StepAnswer::Stepped(words::step(v, i as u32, j as u32)),
+        Advanced::Made(_) => StepAnswer::Stepped(words::step(v, i as u32, j as u32)),
         Advanced::Refused(k) => StepAnswer::Refused(k),
     }
 }
 
 // The number of a refusal, 0 for a step that was made.
 fn refusal_in(advanced: Advanced) -> u32
-    ensures { λ r. ⌜ ((k : ℕ) → advanced ≡ Advanced.Refused k → r ≡ k) × ((count old : ℕ) → advanced ≡ Advanced.Made count old → r ≡ 0) ⌝ }
+    ensures { λ r. ⌜ ((k : ℕ) → advanced ≡ Advanced.Refused k → r ≡ k) × ((count : ℕ) → advanced ≡ Advanced.Made count → r ≡ 0) ⌝ }
 {
     match advanced {
-        Advanced::Made(_, _) => 0,
+        Advanced::Made(_) => 0,
         Advanced::Refused(k) => k,
     }
 }
@@ -94,7 +93,7 @@ fn resume(t: &[u32], base: usize, i: usize, j: usize) -> usize
 // Up to `most` steps on a valid table. The hunt goes on at the bucket and the first row of the last step.
 fn run_valid(t: &mut [u32], shape: Shape, most: usize, slice: &mut [u32]) -> RunAnswer
     requires { ⌜ (validTable (now t) ≡ true) × (shape ≡ shapeOf (now t)) × (most ≤ length (now slice)) ⌝ }
-    ensures { λ r. ⌜ (r ≡ runReturns (now (t .entry)) (now (slice .entry)) (runRows (domains (now (t .entry))) (capacityOf (now (t .entry))) most (tableRows (now (t .entry))) []) .answer) × (now (t .exit) ≡ runReturns (now (t .entry)) (now (slice .entry)) (runRows (domains (now (t .entry))) (capacityOf (now (t .entry))) most (tableRows (now (t .entry))) []) .table) × (now (slice .exit) ≡ runReturns (now (t .entry)) (now (slice .entry)) (runRows (domains (now (t .entry))) (capacityOf (now (t .entry))) most (tableRows (now (t .entry))) []) .slice) ⌝ }
+    ensures { λ r. ⌜ record { answer = r; table = now (t .exit); slice = now (slice .exit) } ≡ runTwelve (now (t .entry)) most (now (slice .entry)) ⌝ }
 {
     let n = shape.variables;
     let fulls = shape.fulls;
@@ -119,7 +118,7 @@ fn run_valid(t: &mut [u32], shape: Shape, most: usize, slice: &mut [u32]) -> Run
         };
         let next = resume(t, base, i, j);
         let advanced = stepping::advance(t, here, v, i, j);
-        let Advanced::Made(now, _) = advanced else {
+        let Advanced::Made(now) = advanced else {
             return ended(t, base, count, Outcome::Refused(refusal_in(advanced)), made);
         };
         slice[made] = words::step(v, i as u32, j as u32);
@@ -133,7 +132,7 @@ fn run_valid(t: &mut [u32], shape: Shape, most: usize, slice: &mut [u32]) -> Run
 
 // A run: single steps, tested before each: done, paused, 11, 12. It tests the table once, and each hunt goes on where the last one ended.
 pub fn run(t: &mut [u32], limit: usize, slice: &mut [u32]) -> RunAnswer
-    ensures { λ r. ⌜ (r ≡ runCall (now (t .entry)) limit (now (slice .entry)) .answer) × (now (t .exit) ≡ runCall (now (t .entry)) limit (now (slice .entry)) .table) × (now (slice .exit) ≡ runCall (now (t .entry)) limit (now (slice .entry)) .slice) ⌝ }
+    ensures { λ r. ⌜ record { answer = r; table = now (t .exit); slice = now (slice .exit) } ≡ runCall (now (t .entry)) limit (now (slice .entry)) ⌝ }
 {
     let checked = table::check(t);
     let Checked::Table(shape) = checked else {

@@ -6,7 +6,7 @@ use mathlib.Core.List.{List, [], _∷_, _++_}
 use lib.ListN.{length, getD, drop, length-append}
 use borrow.Author.Tests.{eq-eqb, ne-eqb}
 use Rattle.clause.specs.declared.Clause.{Clause}
-use Rattle.clause.specs.Packed.{Packed}
+use Rattle.clause.specs.Packed.{FitsBlocks}
 use Rattle.rows.specs.declared.Found.{Found}
 use Rattle.rows.specs.declared.Found.the-variants.{At, Missing}
 use Rattle.rows.specs.Raw.{rowWidth, maxWeight, noRaw, rawAt, rawsIn, Laid, Left, weightIn, rawRow, findFrom, reweighed}
@@ -38,7 +38,7 @@ module _ (t : List ℕ) (base count : ℕ) (x : Clause) (w : ℕ) (a : Addable t
         ap length (added-last m) ∙ length-append (rawsIn t base count) (rawRow x w ∷ [])
         ∙ ap (λ n. n + 1) (length-rawsFrom count (drop base t))
 
-    pub append-ready : f ≡ Missing → Laid t base (rawsIn t base count) × (base + rowWidth * count + rowWidth ≤ length t) × Packed x × (w ≤ maxWeight)
+    pub append-ready : f ≡ Missing → Laid t base (rawsIn t base count) × (base + rowWidth * count + rowWidth ≤ length t) × FitsBlocks x × (w ≤ maxWeight)
     append-ready m = (a .laid, omega (arith, length-last m, a .room), a .packed, a .small)
 
     pub appended : f ≡ Missing → (t′ : List ℕ) → Left t base t′ (rawsIn t base count ++ (rawRow x w ∷ []))

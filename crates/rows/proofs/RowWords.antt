@@ -13,7 +13,7 @@ use Rattle.wcsp.specs.Clause.{same}
 use Rattle.wcsp.proofs.Lists.{both-true, and-left, and-right, ne-true}
 use Rattle.words.specs.Layout.{kindOf, payloadOf, signsWord, weightWord}
 use Rattle.clause.specs.declared.Clause.{Clause}
-use Rattle.clause.specs.Packed.{Packed, signsOf}
+use Rattle.clause.specs.Packed.{FitsBlocks, signsOf}
 use Rattle.clause.proofs.Signs12.{same-clause, clause-same}
 use Rattle.rows.specs.Raw.{maxWeight, Raw, noRaw, rawWords, rawAt, weightIn, isWeight, rowWeighs, weighing, signWords, rawRow, clauseIn, sameSigns}
 
@@ -21,7 +21,7 @@ use Rattle.rows.specs.Raw.{maxWeight, Raw, noRaw, rawWords, rawAt, weigh
 pub block-of : (k x : ℕ) → x < 16777216 → signsWord k x % 16777216 ≡ x
 block-of k x h = omega arith
 
-pub clauseIn-rawRow : (x : Clause) (w : ℕ) → Packed x → clauseIn (rawRow x w) ≡ x
+pub clauseIn-rawRow : (x : Clause) (w : ℕ) → FitsBlocks x → clauseIn (rawRow x w) ≡ x
 clauseIn-rawRow x w p =
     λ i. record { a = block-of 0 (x .a) (p .a) i; b = block-of 1 (x .b) (p .b) i; c = block-of 2 (x .c) (p .c) i; d = block-of 3 (x .d) (p .d) i }
 

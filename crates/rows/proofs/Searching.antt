@@ -3,7 +3,7 @@ use Prim.Native.Nat.{ℕ, zero, suc, _+_, _-_, _≤_, _<_, suc-le-suc}
 use native.Mathlib.Nat.{le-of-suc-le-suc, sub-zero}
 use native.Mathlib.Numerals.{add-one}
 use native.Mathlib.Omega.{arith}
-use mathlib.Core.Path.{_≡_, refl, sym, ap, _∙_}
+use mathlib.Core.Path.{_≡_, refl, sym, _∙_}
 use mathlib.Core.Bool.{Bool, true, false, cond, false≢true}
 use mathlib.Core.List.{List, [], _∷_}
 use lib.ListN.{length, getD}
@@ -64,13 +64,6 @@ find-at q rs k e = go (findFrom q 0 rs) (answer q 0 rs) e
     go (At m) (found i f h) u = let same : m ≡ k = cc in let s : i ≡ k = omega arith in rw (← s) f
     go Missing (none n) u = let z : _≡_ {A = ℕ} 0 1 = cc in absurd (omega arith)
 
-pub find-missing : (q : Raw) (rs : List Raw) → findFrom q 0 rs ≡ Missing → None q rs
-find-missing q rs e = go (findFrom q 0 rs) (answer q 0 rs) e
-  where
-    go : (o : Found) → Answer q 0 rs o → o ≡ Missing → None q rs
-    go (At m) (found i f h) u = let z : _≡_ {A = ℕ} 0 1 = cc in absurd (omega arith)
-    go Missing (none n) u = n
-
 -- two rows of one list cannot both be the first
 first-unique : (q : Raw) (rs : List Raw) (i k : ℕ) → First q rs i → First q rs k → i ≡ k
 first-unique q rs i k f g = go (ltb i k) refl (ltb k i) refl
@@ -79,20 +72,6 @@ first-unique q rs i k f g = go (ltb i k) refl (ltb k i) refl
     go true u e v = absurd (false≢true (sym (g .before i (ltb-true i k u)) ∙ f .here))
     go false u true v = absurd (false≢true (sym (f .before k (ltb-true k i v)) ∙ g .here))
     go false u false v = let l = ltb-false i k u in let m = ltb-false k i v in omega arith
-
-pub at-find : (q : Raw) (rs : List Raw) (k : ℕ) → First q rs k → findFrom q 0 rs ≡ At k
-at-find q rs k g = go (findFrom q 0 rs) (answer q 0 rs)
-  where
-    go : (o : Found) → Answer q 0 rs o → o ≡ At k
-    go (At m) (found i f h) = let u = first-unique q rs i k f g in let e : m ≡ k = omega arith in ap At e
-    go Missing (none n) = absurd (false≢true (sym (n k (g .there)) ∙ g .here))
-
-pub missing-find : (q : Raw) (rs : List Raw) → None q rs → findFrom q 0 rs ≡ Missing
-missing-find q rs n = go (findFrom q 0 rs) (answer q 0 rs)
-  where
-    go : (o : Found) → Answer q 0 rs o → o ≡ Missing
-    go (At m) (found i f h) = absurd (false≢true (sym (n i (f .there)) ∙ f .here))
-    go Missing (none n′) = refl
 
 -- ---- the steps of a loop: the rows from row k on start at place at
 

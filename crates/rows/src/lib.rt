@@ -3,7 +3,7 @@ ghost use mathlib.Core.Path.{_≡_};
 ghost use mathlib.Core.List.{[], _∷_, _++_};
 ghost use Prim.Native.Nat.{_+_, _*_, _<_, _≤_};
 ghost use lib.ListN.{length, getD, take, drop, replicate};
-ghost use Rattle.clause.specs.Packed.{Packed};
+ghost use Rattle.clause.specs.Packed.{FitsBlocks};
 ghost use Rattle.rows.specs.Raw.{rowWidth, maxWeight, rawWords, rawAt, rawsIn, Laid, Left, weightIn, rowWeighs, weighing, rawRow, clauseIn, findFrom, reweighed, without};
 ghost use Rattle.rows.specs.Adding.{added, Addable};
 use clause::Clause;
@@ -22,7 +22,7 @@ pub enum Found {
 // The clause of row k.
 pub fn clause_of(t: &[u32], base: usize, k: usize) -> Clause
     requires { ⌜ base + rowWidth * k + rowWidth ≤ length (now t) ⌝ }
-    ensures { λ r. ⌜ (r ≡ clauseIn (rawAt (now (t .entry)) (base + rowWidth * k))) × Packed r ⌝ }
+    ensures { λ r. ⌜ (r ≡ clauseIn (rawAt (now (t .entry)) (base + rowWidth * k))) × FitsBlocks r ⌝ }
 {
     let at = base + WIDTH * k;
     Clause {
@@ -89,7 +89,7 @@ fn word_at(k: usize, a: u32, b: u32, c: u32, d: u32) -> u32
 
 // The first row with this clause's sign words. One of them is compared first, which rules out nearly every row.
 pub fn find(t: &[u32], base: usize, count: usize, x: Clause) -> Found
-    requires { ⌜ (base + rowWidth * count ≤ length (now t)) × Packed x ⌝ }
+    requires { ⌜ (base + rowWidth * count ≤ length (now t)) × FitsBlocks x ⌝ }
     ensures { λ r. ⌜ r ≡ findFrom (rawRow x 0) 0 (rawsIn (now (t .entry)) base count) ⌝ }
 {
     let a = words::signs(0, x.a);
@@ -125,7 +125,7 @@ fn write_weight(t: &mut [u32], at: usize, weight: u64)
 
 // The row writer: a row's words at the front of the part it is lent.
 fn write_row(part: &mut [u32], x: Clause, weight: u64)
-    requires { ⌜ (rowWidth ≤ length (now part)) × Packed x × (weight ≤ maxWeight) ⌝ }
+    requires { ⌜ (rowWidth ≤ length (now part)) × FitsBlocks x × (weight ≤ maxWeight) ⌝ }
     ensures { λ r. ⌜ now (part .exit) ≡ rawWords (rawRow x weight) ++ drop rowWidth (now (part .entry)) ⌝ }
 {
     part[0] = words::signs(0, x.a);
@@ -137,7 +137,7 @@ fn write_row(part: &mut [u32], x: Clause, weight: u64)
 
 // A new row after the last one: the part of the table that starts at its place is lent on to the row writer.
 pub fn append(t: &mut [u32], base: usize, count: usize, x: Clause, weight: u64)
-    requires { ⌜ Laid (now t) base (rawsIn (now t) base count) × (base + rowWidth * count + rowWidth ≤ length (now t)) × Packed x × (weight ≤ maxWeight) ⌝ }
+    requires { ⌜ Laid (now t) base (rawsIn (now t) base count) × (base + rowWidth * count + rowWidth ≤ length (now t)) × FitsBlocks x × (weight ≤ maxWeight) ⌝ }
     ensures { λ r. ⌜ Left (now (t .entry)) base (now (t .exit)) (rawsIn (now (t .entry)) base count ++ (rawRow x weight ∷ [])) ⌝ }
 {
     let at = base + WIDTH * count;

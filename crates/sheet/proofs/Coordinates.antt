@@ -1,12 +1,11 @@
 -- A sheet's coordinates: the coordinate of one word, and the positions of a variable's values.
-use Prim.Native.Nat.{ℕ, zero, suc, _+_, _-_, _≤_, _<_}
+use Prim.Native.Nat.{ℕ, _-_, _≤_}
 use native.Mathlib.Omega.{arith}
-use mathlib.Core.Path.{_≡_, refl, sym, ap, _∙_}
+use mathlib.Core.Path.{_≡_, refl, sym, _∙_}
 use mathlib.Core.Bool.{Bool, true, false, cond, false≢true}
 use mathlib.Core.List.{List, [], _∷_}
-use lib.ListN.{length, drop, length-drop}
+use lib.ListN.{length}
 use lib.Dec.{eqb}
-use lib.Seq.{drop-drop}
 use borrow.Author.Tests.{eq-eqb, ne-eqb}
 use Rattle.words.specs.declared.Coordinate.{Coordinate}
 use Rattle.words.specs.declared.Coordinate.the-variants.{At, Outside}
@@ -15,7 +14,7 @@ use Rattle.words.specs.Meaning.{coordinateOf}
 use Rattle.words.proofs.Coordinates.{coordinate-inverse}
 use Rattle.input.specs.Phases.{nextOf, nextBy}
 use Rattle.sheet.specs.Sheet.{coordinateIn, isPlace, offsetIn, offsetOf}
-use Rattle.sheet.specs.Phases.{placeNext, goodPositions}
+use Rattle.sheet.specs.Phases.{placeNext}
 
 -- ---- one word
 
@@ -68,29 +67,3 @@ pub next-inside : (k : ℕ) (ws : List ℕ) → placeNext k ws ≡ true → 1 �
 unfolding nextBy nextOf
 next-inside k [] e = absurd (false≢true e)
 next-inside k (w ∷ ws) e = omega arith
-
-module _ (ws : List ℕ) (i : ℕ) where
-  pub next-below : (k : ℕ) → placeNext k (drop i ws) ≡ true → i < length ws
-  next-below k e = let h = next-inside k (drop i ws) e in omega (arith, length-drop i ws)
-
-  module _ (left : ℕ) (some : 0 < left) where
-    one-more : left ≡ suc (left - 1)
-    one-more = omega arith
-
-    pub no-east : placeNext 8 (drop i ws) ≡ false → false ≡ goodPositions left (drop i ws)
-    unfolding goodPositions
-    no-east e = rw (one-more, e)
-
-    pub no-north : placeNext 8 (drop i ws) ≡ true → placeNext 9 (drop (i + 1) ws) ≡ false → false ≡ goodPositions left (drop i ws)
-    unfolding goodPositions
-    no-north e f = rw (one-more, e, drop-drop 1 i ws, f)
-
-    pub position-more : placeNext 8 (drop i ws) ≡ true → placeNext 9 (drop (i + 1) ws) ≡ true
-        → goodPositions left (drop i ws) ≡ goodPositions (left - 1) (drop (i + 2) ws)
-    unfolding goodPositions
-    position-more e f = ap (λ k. goodPositions k (drop i ws)) one-more ∙ rw (e, drop-drop 1 i ws, f, drop-drop 2 i ws)
-
-pub positions-none : (ws : List ℕ) (left : ℕ) → left ≤ 0 → true ≡ goodPositions left ws
-unfolding goodPositions
-positions-none ws zero h = refl
-positions-none ws (suc k) h = absurd (omega arith)

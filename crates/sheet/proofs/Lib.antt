@@ -2,6 +2,7 @@
 pub mod Coordinates
 pub mod Counting
 pub mod Located
+pub mod OneStation
 pub mod Sheets
 pub mod Acceptance
 pub mod Fitting
@@ -13,3 +14,4 @@ pub mod Making
 pub mod MakeTests
 pub mod Faults
 pub mod Placed
+pub mod Order

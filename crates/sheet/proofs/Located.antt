@@ -1,7 +1,7 @@
 -- The stations of a sheet: reading one after another answers the sizes of all and where the entries start, and the fault of the whole comes apart into that of the stations and that of the entries.
 use Prim.Native.Nat.{ℕ, zero, suc, _+_, _-_, _*_, _≤_, _<_}
 use native.Mathlib.Omega.{arith}
-use mathlib.Core.Path.{_≡_, refl, sym, ap, _∙_}
+use mathlib.Core.Path.{_≡_, refl, ap, _∙_}
 use mathlib.Core.Bool.{Bool, true, false, _&&_, false≢true}
 use mathlib.Core.List.{List, [], _∷_, map}
 use lib.ListN.{length, drop, set, replicate, length-drop}
@@ -9,7 +9,6 @@ use lib.Seq.{drop-drop}
 use borrow.Author.Tests.{ne-eqb}
 use Rattle.fields.specs.Limits.{maxVariables, maxValues}
 use Rattle.fields.specs.Front.{sizeIn}
-use Rattle.input.specs.declared.Got.{Got}
 use Rattle.input.specs.declared.Got.the-variants.{Fault}
 use Rattle.input.specs.Phases.{nextOf, nextBy, sizeNext, refusedStations}
 use Rattle.input.proofs.Filling.{Filling, filling-start, filling-step, filling-end}
@@ -59,7 +58,7 @@ module _ (k d : ℕ) where
   unfolding behindStations
   behind-more (w ∷ ws) (withSize h e) = rw (size-payload w d e h .0)
 
-good-none : (k f : ℕ) (ws : List ℕ) → Fault f ≡ sizeNext ws → goodStations (suc k) ws ≡ false
+pub good-none : (k f : ℕ) (ws : List ℕ) → Fault f ≡ sizeNext ws → goodStations (suc k) ws ≡ false
 unfolding goodStations nextBy nextOf
 good-none k f [] e = refl
 good-none k f (w ∷ ws) e = rw (size-fault w f e)
@@ -94,7 +93,7 @@ module _ (ws : List ℕ) (n : ℕ) (sizes : List ℕ) (at i : ℕ) (limit : n �
   pub positions-end : (d : ℕ) → at + 1 ≤ length ws → goodPositions d (drop (at + 1) ws) ≡ true → at + (1 + 2 * d) ≤ length ws
   positions-end d h g = omega (arith, positions-inside d (drop (at + 1) ws) g, length-drop (at + 1) ws)
 
-  refused-by : goodStations n (drop 1 ws) ≡ false → refusedStations ≡ stationsRead n ws
+  refused-by : goodStations n (drop 1 ws) ≡ false → refusedStations 2 ≡ stationsRead n ws
   unfolding stationsRead
   refused-by l = rw l
 
@@ -102,15 +101,8 @@ module _ (ws : List ℕ) (n : ℕ) (sizes : List ℕ) (at i : ℕ) (limit : n �
     more-left : n - i ≡ suc (n - (i + 1))
     more-left = omega arith
 
-    pub stations-fault : (x : Got) (f : ℕ) → x ≡ sizeNext (drop at ws) → x ≡ Fault f → refusedStations ≡ stationsRead n ws
-    stations-fault x f e g =
-        refused-by (inv .good ∙ ap (λ k. goodStations k (drop at ws)) more-left ∙ good-none (n - (i + 1)) f (drop at ws) (sym g ∙ e))
-
-    pub stations-broken : (d : ℕ) → Sized (drop at ws) d → goodPositions d (drop (at + 1) ws) ≡ false → refusedStations ≡ stationsRead n ws
-    stations-broken d s g =
-        refused-by
-        (inv .good ∙ ap (λ k. goodStations k (drop at ws)) more-left
-        ∙ good-broken (n - (i + 1)) d (drop at ws) s (ap (goodPositions d) (drop-drop 1 at ws) ∙ g))
+    pub stations-fault : (f : ℕ) → (f ≡ 2) × (goodStations (suc (n - (i + 1))) (drop at ws) ≡ false) → refusedStations f ≡ stationsRead n ws
+    stations-fault f (e, g) = ap refusedStations e ∙ refused-by (inv .good ∙ ap (λ k. goodStations k (drop at ws)) more-left ∙ g)
 
     pub stations-more : (d : ℕ) → Sized (drop at ws) d → goodPositions d (drop (at + 1) ws) ≡ true
         → StationsSoFar ws n (set sizes i d) (at + (1 + 2 * d)) (i + 1)

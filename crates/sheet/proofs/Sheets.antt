@@ -23,7 +23,7 @@ use Rattle.input.specs.Phases.{nextOf, nextBy, headNext}
 use Rattle.input.specs.Scan.{scanGot}
 use Rattle.input.proofs.Sizes.{withSize, stations-taken, stations-refused}
 use Rattle.input.proofs.Scanning.{got-fault, got-number}
-use Rattle.input.proofs.Validating.{Headed, withHead, headed-bounds, headed-payload, headless}
+use Rattle.input.proofs.Validating.{Headed, withHead, headed-bounds, headed-payload, head-one, headless}
 use Rattle.sheet.specs.declared.SheetRead.{SheetRead}
 use Rattle.sheet.specs.Sheet.{isEasting, isNorthing, legCount, sheetStationsFault, sheetFault, stationsFrom, behindStations, sheetSizes, entryWordsOf}
 use Rattle.sheet.specs.Phases.{placeNext, goodPositions, goodStations, stationsRead}
@@ -227,6 +227,10 @@ module _ (ws : List ℕ) (n : ℕ) (h : Headed ws n) where
       unfolding found
       read-behind = rw entries-are (ap (λ (x : Stations). x .behind) (is-found .1))
 
+      -- the entries start within the words or at their end
+      pub entries-within : read .behind ≤ length ws
+      entries-within = rw read-behind (omega arith)
+
       pub sizes-long : n ≤ length (read .sizes)
       sizes-long =
           let b = headed-bounds ws n h in
@@ -259,10 +263,13 @@ module _ (ws : List ℕ) (n : ℕ) (h : Headed ws n) where
             let i : sheetFault ws ≡ 0 = sheet-is ∙ f .0 in
             rw (i, sizes-number, ← read-behind, ← read-sizes)
 
-pub no-head : (ws : List ℕ) (f : ℕ) → Fault f ≡ headNext ws → refusedSheet 1 ≡ sheetCall ws
+no-head-one : (ws : List ℕ) (f : ℕ) → Fault f ≡ headNext ws → refusedSheet 1 ≡ sheetCall ws
 unfolding sheetCall sheetFault nextBy nextOf
-no-head [] f e = refl
-no-head (w ∷ ws) f e = rw (headless (λ n. sheetStationsFault n 0 [] ws) w f e)
+no-head-one [] f e = refl
+no-head-one (w ∷ ws) f e = rw (headless (λ n. sheetStationsFault n 0 [] ws) w f e)
+
+pub no-head : (ws : List ℕ) (f : ℕ) → Fault f ≡ headNext ws → refusedSheet f ≡ sheetCall ws
+no-head ws f e = ap refusedSheet (head-one ws f e) ∙ no-head-one ws f e
 
 -- ---- what the answer tells
 

@@ -6,3 +6,4 @@ pub mod Made
 pub mod Calls
 pub mod Promises
 pub mod Places
+pub mod Order

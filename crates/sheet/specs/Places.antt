@@ -1,4 +1,4 @@
--- Positions in code, and as they stand in a sheet's words.
+-- Inner: positions in code, and as they stand in a sheet's words; no statement for users rests on it.
 use Prim.Native.Nat.{ℕ, _+_}
 use mathlib.Core.List.{List}
 use lib.ListN.{getD}

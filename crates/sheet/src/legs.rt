@@ -9,13 +9,14 @@ ghost use lib.ListN.{length, drop};
 ghost use lib.Seq.{sets};
 ghost use Rattle.fields.specs.Limits.{maxValues};
 ghost use Rattle.sheet.specs.Sheet.{pointsFrom, legCount, sheetFault, sheetSizes, positionsOf};
+ghost use Rattle.distance.specs.Metres.{maxMetres};
 ghost use Rattle.sheet.specs.Accepted.{PlacedPoint};
 ghost use Rattle.sheet.specs.Made.{legWords, allLegWords, legsTo, legsBetween, legsFrom};
 ghost use Rattle.sheet.specs.Places.{pointOf};
 
 // A leg's three words.
 fn write_leg(target: &mut [u32], at: usize, variable: u32, value: u32, next: u32, metres: u32)
-    requires { do ⌜ (at + 3 ≤ (← ⟦target.len()⟧)) × (variable < 15) × (value < maxValues) × (next < maxValues) × (metres ≤ 28284) ⌝ }
+    requires { do ⌜ (at + 3 ≤ (← ⟦target.len()⟧)) × (variable < 15) × (value < maxValues) × (next < maxValues) × (metres ≤ maxMetres) ⌝ }
     ensures { λ _. ⌜ now (target .exit) ≡ sets (now (target .entry)) at (legWords (record { variable = variable; value = value; nextValue = next; metres = metres })) ⌝ }
 {
     let first = words::binding(variable, value);

@@ -31,12 +31,22 @@ pub struct Place {
     pub northing: u32,
 }
 
+// What is ahead in a station of d values: its station word; a coordinate word, m others following; nothing, where all are
+// read; or the number of the fault at which reading ends.
+pub enum Ahead {
+    Station,
+    Places(u32, u32),
+    Read(u32),
+    Stops(u32),
+}
+
 // The test of a sheet: 1 to 5, or its variables, where its entries start, and its sizes.
 pub fn read_sheet(words: &[u32]) -> SheetRead
     ensures { λ r. ⌜ r ≡ sheetCall (now (words .entry)) ⌝ }
 {
-    let Got::Number(n) = input::front::read_head(words) else {
-        return refused_sheet(1);
+    let head = input::front::read_head(words);
+    let Got::Number(n) = head else {
+        return refused_sheet(input::fault_in(head));
     };
     let read = stations::read_stations(words, n as usize);
     if read.number != 0 {

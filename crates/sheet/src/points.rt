@@ -4,6 +4,7 @@ use words::Coordinate;
 ghost use mathlib.Core.Path.{_≡_};
 ghost use Prim.Native.Nat.{_+_, _<_, _≤_};
 ghost use lib.ListN.{getD};
+ghost use Rattle.distance.specs.Metres.{maxOffset};
 ghost use Rattle.words.specs.Layout.{payloadOf};
 ghost use Rattle.sheet.specs.Sheet.{coordinateIn, offsetOf};
 ghost use Rattle.sheet.specs.Accepted.{PlacedPoint};
@@ -31,7 +32,7 @@ pub fn coordinate(kind: u32, w: u32) -> Coordinate
 }
 
 fn offset(kind: u32, w: u32) -> u32
-    ensures { λ r. ⌜ (r ≡ offsetOf kind w) × (r ≤ 2000000) ⌝ }
+    ensures { λ r. ⌜ (r ≡ offsetOf kind w) × (r ≤ maxOffset) ⌝ }
 {
     let c = coordinate(kind, w);
     match c {

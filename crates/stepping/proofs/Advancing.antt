@@ -8,12 +8,12 @@ use lib.ListN.{length, getD, take, set, length-map}
 use lib.Seq.{take-all}
 use Rattle.wcsp.specs.Clause.{kept}
 use Rattle.wcsp.specs.Row.{Row}
-use Rattle.wcsp.specs.Resolve.{Pair, noRow, lessen, movedWeight, conclusionsOf, resolve, Permitted}
+use Rattle.wcsp.specs.Resolve.{Pair, noRow, lessen, movedWeight, conclusionsOf, resolve, MayResolve}
 use Rattle.wcsp.specs.Theorems.{Distinct}
 use Rattle.wcsp.proofs.Linear.{lessen-below, lessen-keeps}
 use Rattle.wcsp.proofs.Adding.{raised, fresh}
 use Rattle.wcsp.proofs.Raising.{raised-length, raised-other}
-use Rattle.wcsp.proofs.AsWritten.{outcome, resolve-as-written, gone, removed, written-length}
+use Rattle.wcsp.proofs.AsWritten.{outcome, resolve-as-written}
 use Rattle.wcsp.proofs.TooHeavy.{heavyAny, heavy-at}
 use Rattle.wcsp.proofs.TooHeavy as Weighing
 use Rattle.words.specs.Layout.{countWord}
@@ -22,9 +22,8 @@ use Rattle.conclusions.proofs.Filling.{clausesIn-length}
 use Rattle.rows.specs.Raw.{rowWidth, maxWeight, rawsIn, Laid, Left}
 use Rattle.rows.proofs.Laying.{left-read, left-laid, left-trans}
 use Rattle.table.specs.Layout.{maxRows, capacityIn, capacity, tableWords, tooHeavy}
-use Rattle.table.specs.Meaning.{variablesOf, tableSizes, tableRows, domains}
+use Rattle.table.specs.Meaning.{variablesOf, tableSizes, tableRows, domains, capacityOf}
 use Rattle.table.specs.Valid.{validTable}
-use Rattle.table.specs.Check.{capacityOf}
 use Rattle.table.specs.Raws.{rawOf}
 use Rattle.table.proofs.Twelve.{Twelve}
 use Rattle.table.proofs.RawRows.{weight-raws}
@@ -32,47 +31,45 @@ use Rattle.table.proofs.Canonical.{room-rows}
 use Rattle.table.proofs.Finishing.{finished-valid}
 use Rattle.table.proofs.Reading.{Ready}
 use Rattle.stepping.specs.declared.Advanced.the-variants.{Made, Refused}
-use Rattle.stepping.specs.Step.{Stepping, finished, refusing, stepping, allowed, refusalOf}
-use Rattle.stepping.specs.Advance.{usedUp, advanceReturns, advanceCall}
-use Rattle.stepping.specs.Turns.{weightAt, heavyTo, Placed, raisedTo, takenFrom, appendedTo, Planned}
+use Rattle.stepping.specs.Step.{Stepping, refusing, stepsTo, allowed, refusalOf}
+use Rattle.stepping.specs.Advance.{AdvanceReturned, advanceReturns, advanceCall}
+use Rattle.stepping.specs.Turns.{weightAt, heavyTo, Placed, raisedTo, takenFrom, appendedTo, Surveyed}
 use Rattle.stepping.proofs.Agreement.{taken-rows, heavy-agrees, raised-agrees, raised-light, appended-agrees}
 use Rattle.stepping.proofs.Surveying.{twelve-at}
 use Rattle.stepping.proofs.Verdicts.{Verdict, refused as refusedBy, made, verdict}
 
 -- ---- refused or allowed
 
-refused-call : (t : List ℕ) (old number : ℕ) (s : Stepping) → number ≡ refusalOf s → (number ≡ 0 → ⊥)
-    → (Refused number ≡ advanceReturns t old s .answer) × (t ≡ advanceReturns t old s .table)
+refused-call : (t : List ℕ) (number : ℕ) (s : Stepping) → number ≡ refusalOf s → (number ≡ 0 → ⊥)
+    → _≡_ {A = AdvanceReturned} (record { answer = Refused number; table = t }) (advanceReturns t s)
 unfolding refusalOf advanceReturns
-refused-call t old number finished e n = absurd (n e)
-refused-call t old number (refusing k) e n = (ap Refused e, refl)
-refused-call t old number (stepping pr rs) e n = absurd (n e)
+refused-call t number (refusing k) e n = ap (λ m. record { answer = Refused m; table = t }) e
+refused-call t number (stepsTo pr rs) e n = absurd (n e)
 
-pub refused : {t : List ℕ} {pr : Pair} {buffer places : List ℕ} {kept′ moved number : ℕ} → Planned t pr buffer places kept′ moved number → (number ≡ 0 → ⊥)
-    → (Refused number ≡ advanceCall t pr .answer) × (t ≡ advanceCall t pr .table)
+pub refused : {t : List ℕ} {pr : Pair} {buffer places : List ℕ} {kept′ moved number : ℕ} → Surveyed t pr buffer places kept′ moved number → (number ≡ 0 → ⊥)
+    → _≡_ {A = AdvanceReturned} (record { answer = Refused number; table = t }) (advanceCall t pr)
 unfolding advanceCall
 refused {t} {pr} {number = number} q n =
-    refused-call t _ number (allowed (capacityOf t) pr (resolve (domains t) pr (tableRows t))) (q .result) n
+    refused-call t number (allowed (capacityOf t) pr (resolve (domains t) pr (tableRows t))) (q .result) n
 
-pub planned-zero : {t : List ℕ} {pr : Pair} {buffer places : List ℕ} {kept′ moved number : ℕ} → Planned t pr buffer places kept′ moved number → number ≡ 0
-    → Planned t pr buffer places kept′ moved 0
+pub planned-zero : {t : List ℕ} {pr : Pair} {buffer places : List ℕ} {kept′ moved number : ℕ} → Surveyed t pr buffer places kept′ moved number → number ≡ 0
+    → Surveyed t pr buffer places kept′ moved 0
 planned-zero q e = rw e at q
 
 -- a step that is not refused is made, and its rows are light enough and fit
 cleared : (most : ℕ) (pr : Pair) (rs : List Row) → 0 ≡ refusalOf (allowed most pr rs)
-    → (allowed most pr rs ≡ stepping pr rs) × (tooHeavy rs ≡ false) × (length rs ≤ most)
+    → (allowed most pr rs ≡ stepsTo pr rs) × (tooHeavy rs ≡ false) × (length rs ≤ most)
 unfolding refusalOf
 cleared most pr rs e = go (allowed most pr rs) (verdict most pr rs) e
   where
-    go : (s : Stepping) → Verdict most pr rs s → 0 ≡ refusalOf s → (s ≡ stepping pr rs) × (tooHeavy rs ≡ false) × (length rs ≤ most)
+    go : (s : Stepping) → Verdict most pr rs s → 0 ≡ refusalOf s → (s ≡ stepsTo pr rs) × (tooHeavy rs ≡ false) × (length rs ≤ most)
     go (refusing k) (refusedBy m n) e = absurd (omega arith)
-    go (stepping x y) (made h l) e = (refl, h, l)
+    go (stepsTo x y) (made h l) e = (refl, h, l)
 
-made-call : (t : List ℕ) (pr : Pair) (rs : List Row) (old most : ℕ) → 0 ≡ refusalOf (allowed most pr rs)
-    → (Made (length rs) old ≡ advanceReturns t old (allowed most pr rs) .answer)
-    × (tableWords (length t) (tableSizes t) rs ≡ advanceReturns t old (allowed most pr rs) .table)
+made-call : (t : List ℕ) (pr : Pair) (rs : List Row) (most : ℕ) → 0 ≡ refusalOf (allowed most pr rs)
+    → _≡_ {A = AdvanceReturned} (record { answer = Made (length rs); table = tableWords (length t) (tableSizes t) rs }) (advanceReturns t (allowed most pr rs))
 unfolding advanceReturns
-made-call t pr rs old most e = rw (cleared most pr rs e .0) (refl, refl)
+made-call t pr rs most e = rw (cleared most pr rs e .0)
 
 -- ---- the rows after each write
 
@@ -96,8 +93,8 @@ endRows t pr = resolve (domains t) pr (tableRows t)
 
 -- ---- the writes
 
-module _ (t : List ℕ) (n count : ℕ) (r : Ready t n count) (pr : Pair) (p : Permitted (domains t) (tableRows t) pr)
-    (buffer places : List ℕ) (kept′ moved : ℕ) (q : Planned t pr buffer places kept′ moved 0) where
+module _ (t : List ℕ) (n count : ℕ) (r : Ready t n count) (pr : Pair) (p : MayResolve (domains t) (tableRows t) pr)
+    (buffer places : List ℕ) (kept′ moved : ℕ) (q : Surveyed t pr buffer places kept′ moved 0) where
   long : length (clausesIn kept′ buffer) ≡ kept′
   long = clausesIn-length kept′ buffer
 
@@ -279,13 +276,10 @@ module _ (t : List ℕ) (n count : ℕ) (r : Ready t n count) (pr : Pair) (p : P
               (omega arith, end-left .long, omega arith, r .few)
 
           pub advanced : validTable t ≡ true → (w : ℕ) → w ≡ countWord now
-              → (Made now old ≡ advanceCall t pr .answer) × (set t₄ (n + 1) w ≡ advanceCall t pr .table)
-          unfolding advanceCall removed gone
+              → _≡_ {A = AdvanceReturned} (record { answer = Made now; table = set t₄ (n + 1) w }) (advanceCall t pr)
+          unfolding advanceCall
           advanced valid w e =
-              let rs = tableRows t in
-              let made = made-call t pr (endRows t pr) (length rs - usedUp pr rs) (capacityOf t) (q .result) in
-              let stayed : old ≡ length rs - usedUp pr rs = down-count ∙ written-length (r .valid) p in
-              let left : Left t (variablesOf t + 2) t₄ (map rawOf (endRows t pr)) = rw (r .variables) at end-left in (
-                ap₂ (λ a b. Made a b) end-count stayed ∙ made .0,
-                rw (e, end-count, r .variables) (finished-valid t t₄ (endRows t pr) valid left) ∙ made .1,
-              )
+              let left : Left t (variablesOf t + 2) t₄ (map rawOf (endRows t pr)) = rw (r .variables) at end-left in
+              ap₂ (λ a u. record { answer = Made a; table = u }) end-count
+              (rw (e, end-count, r .variables) (finished-valid t t₄ (endRows t pr) valid left))
+              ∙ made-call t pr (endRows t pr) (capacityOf t) (q .result)

@@ -5,15 +5,16 @@ use mathlib.Core.Bool.{true}
 use mathlib.Core.List.{List}
 use lib.ListN.{length}
 use Rattle.wcsp.specs.Row.{Row}
-use Rattle.wcsp.specs.Resolve.{Pair, resolve, Permitted}
+use Rattle.wcsp.specs.Resolve.{Pair, resolve, MayResolve}
 use Rattle.wcsp.proofs.Validity.{stepValid}
 use Rattle.table.specs.Layout.{capacity}
-use Rattle.table.specs.Meaning.{variablesOf, rowCount, tableSizes, tableRows, domains}
+use Rattle.fields.specs.Padding.{padded}
+use Rattle.table.specs.Meaning.{variablesOf, rowCount, tableSizes, tableRows, domains, capacityOf}
 use Rattle.table.specs.Valid.{validTable}
-use Rattle.table.specs.Check.{capacityOf, Holdable}
-use Rattle.table.proofs.Canonical.{validIsCanonical}
+use Rattle.table.specs.Twelve.{TwelveHoldable}
+use Rattle.table.proofs.Canonical.{twelveIsCanonical}
 use Rattle.table.proofs.Finishing.{valid-variables}
-use Rattle.table.proofs.Held.{Held, held}
+use Rattle.table.proofs.Held.{TwelveHeld, twelve-held}
 use Rattle.stepping.proofs.Answers.{Advances}
 
 pub record Following (t t′ : List ℕ) (rs : List Row) : Type 0 where
@@ -26,15 +27,15 @@ pub record Following (t t′ : List ℕ) (rs : List Row) : Type 0 where
   pub capacious : capacityOf t′ ≡ capacityOf t
   pub counted : rowCount t′ ≡ length rs
 
-module _ (t : List ℕ) (v : validTable t ≡ true) (pr : Pair) (m : Permitted (domains t) (tableRows t) pr) (now old : ℕ) (t′ : List ℕ)
-    (a : Advances t pr now old t′) where
+module _ (t : List ℕ) (v : validTable t ≡ true) (pr : Pair) (m : MayResolve (domains t) (tableRows t) pr) (now : ℕ) (t′ : List ℕ)
+    (a : Advances t pr now t′) where
   rs′ : List Row
   rs′ = resolve (domains t) pr (tableRows t)
 
-  holdable : Holdable (length t) (tableSizes t) rs′
+  holdable : TwelveHoldable (length t) (tableSizes t) rs′
   unfolding rs′ domains
   holdable =
-      let h = validIsCanonical t v .holdable in
+      let h = twelveIsCanonical t v .holdable in
       let n = valid-variables t v in
       record {
         head = h .head;
@@ -49,7 +50,7 @@ module _ (t : List ℕ) (v : validTable t ≡ true) (pr : Pair) (m : Permitted (
   pub following : Following t t′ (resolve (domains t) pr (tableRows t))
   unfolding rs′ domains
   following =
-      let h : Held t′ (length t) (tableSizes t) rs′ = held t′ (length t) (tableSizes t) rs′ holdable (a .table) in
+      let h : TwelveHeld t′ (length t) (tableSizes t) rs′ = twelve-held t′ (length t) (tableSizes t) rs′ holdable (a .table) in
       let n = valid-variables t v in
       record {
         valid = h .valid;
@@ -57,7 +58,7 @@ module _ (t : List ℕ) (v : validTable t ≡ true) (pr : Pair) (m : Permitted (
         sizes = h .sizes;
         rows = h .rows;
         variables = h .variables ∙ n;
-        domained = h .domained;
+        domained = ap padded (h .sizes);
         capacious = h .capacious ∙ ap (capacity (length t)) n;
         counted = h .counted;
       }

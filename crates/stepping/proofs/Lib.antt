@@ -7,3 +7,4 @@ pub mod Surveying
 pub mod Advancing
 pub mod Answers
 pub mod Following
+pub mod Wide

@@ -2,38 +2,38 @@
 use Prim.Native.Nat.{ℕ, _+_, _-_, _*_, _<_, _≤_, min}
 use native.Mathlib.Omega.{arith}
 use mathlib.Core.Path.{_≡_, sym, ap, ap₂, _∙_}
-use mathlib.Core.Bool.{Bool, true, false, cond}
+use mathlib.Core.Bool.{Bool, true, cond}
 use mathlib.Core.List.{List, []}
 use lib.ListN.{length, getD, take}
 use lib.Seq.{take-all}
-use lib.Dec.{eqb}
+use lib.Dec.{eqb, ltb}
 use Rattle.wcsp.specs.Clause.{ValidClause, kept}
 use Rattle.wcsp.specs.Rule.{conclusions}
-use Rattle.wcsp.specs.Resolve.{Pair, noRow, movedWeight, conclusionsOf, resolve, Permitted}
+use Rattle.wcsp.specs.Resolve.{Pair, noRow, movedWeight, conclusionsOf, resolve, MayResolve}
 use Rattle.wcsp.proofs.Validity.{valid-signs}
 use Rattle.wcsp.proofs.Adding.{fresh}
 use Rattle.wcsp.proofs.AsWritten.{gone, removed, resolve-length}
 use Rattle.wcsp.proofs.TooHeavy.{heavyAny}
 use Rattle.wcsp.proofs.TooHeavy as Weighing
 use Rattle.clause.specs.declared.Clause.{Clause}
-use Rattle.clause.specs.Packed.{signsOf, Packed, FullSigns}
+use Rattle.clause.specs.Packed.{signsOf, FitsBlocks, FullSigns}
 use Rattle.conclusions.specs.Buffer.{clausesIn, PackedBuffer, Below}
 use Rattle.conclusions.proofs.Filling.{clausesIn-length, clausesIn-same-at, read-holds}
 use Rattle.conclusions.proofs.Turns.{below-full}
 use Rattle.rows.specs.Raw.{rowWidth, maxWeight, rawAt, rawsIn, weightIn, clauseIn}
 use Rattle.table.specs.declared.Shape.{Shape}
 use Rattle.table.specs.Layout.{maxRows, capacityIn, capacity, tooHeavy}
-use Rattle.table.specs.Meaning.{variablesOf, rowCount, tableRows, domains}
+use Rattle.table.specs.Meaning.{variablesOf, rowCount, tableRows, domains, capacityOf}
 use Rattle.table.specs.Valid.{validTable}
-use Rattle.table.specs.Check.{fullClause, shapeOf, capacityOf}
+use Rattle.table.specs.Check.{fullClause, shapeOf}
 use Rattle.table.proofs.Twelve.{Twelve, twelve-signsOf}
 use Rattle.table.proofs.RawRows.{rowOf-signs, rowOf-weight}
 use Rattle.table.proofs.Canonical.{passed}
 use Rattle.table.proofs.Finishing.{valid-count}
 use Rattle.table.proofs.Reading.{Ready, ready, row-at}
 use Rattle.stepping.specs.Step.{allowed, refusalOf}
-use Rattle.stepping.specs.Turns.{freshTo, heavyTo, Placed, Planned}
-use Rattle.stepping.proofs.Verdicts.{says-heavy, says-full, says-fits}
+use Rattle.stepping.specs.Turns.{freshTo, heavyTo, Placed, Surveyed}
+use Rattle.stepping.proofs.Verdicts.{says-all}
 use Rattle.stepping.proofs.Agreement.{fresh-agrees, heavy-agrees}
 
 -- ---- the numbers of a valid table, as its shape gives them
@@ -47,7 +47,7 @@ pub record Bounds (t : List ℕ) (shape : Shape) (v i j : ℕ) : Type 0 where
   pub known : v < 12
 
 pub bounds : (t : List ℕ) → validTable t ≡ true → (shape : Shape) → shape ≡ shapeOf t → (v i j : ℕ)
-    → Permitted (domains t) (tableRows t) (record { variable = v; first = i; second = j }) → Bounds t shape v i j
+    → MayResolve (domains t) (tableRows t) (record { variable = v; first = i; second = j }) → Bounds t shape v i j
 unfolding capacityIn
 bounds t valid shape e v i j p =
     let r = ready t valid in
@@ -86,7 +86,7 @@ module _ (t : List ℕ) (valid : validTable t ≡ true) where
   premise-below shape e =
       rw e (λ k h x f. below-full x (fullClause (domains t)) (domains t) (ready t valid .fulls) (premise-valid (ready t valid) k h x f))
 
-  pub full-packed : (shape : Shape) → shape ≡ shapeOf t → Packed (shape .fulls)
+  pub full-packed : (shape : Shape) → shape ≡ shapeOf t → FitsBlocks (shape .fulls)
   full-packed shape e = rw e (ready t valid .packed)
 
 -- ---- the look
@@ -109,7 +109,7 @@ twelve-at k buffer h p m l =
     let held = read-holds buffer m (omega arith) p in
     rw (clausesIn-same-at k 26 m buffer l (omega arith), ← held .signsAre) (twelve-signsOf _ (held .packed))
 
-module _ (t : List ℕ) (valid : validTable t ≡ true) (v i j : ℕ) (p : Permitted (domains t) (tableRows t) (record { variable = v; first = i; second = j })) where
+module _ (t : List ℕ) (valid : validTable t ≡ true) (v i j : ℕ) (p : MayResolve (domains t) (tableRows t) (record { variable = v; first = i; second = j })) where
   seen-shape : (x y : Clause) (buffer places : List ℕ) (kept′ first second moved fresh′ : ℕ) (heavy′ : Bool)
       → first ≡ weightIn (rawAt t (variablesOf t + 2 + rowWidth * i))
       → second ≡ weightIn (rawAt t (variablesOf t + 2 + rowWidth * j))
@@ -185,16 +185,12 @@ module _ (t : List ℕ) (valid : validTable t ≡ true) (v i j : ℕ) (p : Permi
 
 planned : {t : List ℕ} {pr : Pair} {buffer places : List ℕ} {kept′ first second moved fresh′ : ℕ} {heavy′ : Bool} (number : ℕ)
     → Seen t pr buffer places kept′ first second moved fresh′ heavy′ → number ≡ refusalOf (allowed (capacityOf t) pr (resolve (domains t) pr (tableRows t)))
-    → Planned t pr buffer places kept′ moved number
+    → Surveyed t pr buffer places kept′ moved number
 planned number s e =
     record { few = s .few; packed = s .packed; clauses = s .clauses; weight = s .weight; placed = s .placed; result = e }
 
-pub planned-heavy : {t : List ℕ} {pr : Pair} {buffer places : List ℕ} {kept′ first second moved fresh′ : ℕ} {heavy′ : Bool}
-    → Seen t pr buffer places kept′ first second moved fresh′ heavy′ → heavy′ ≡ true → Planned t pr buffer places kept′ moved 11
-planned-heavy s h = planned 11 s (says-heavy _ _ _ (sym (s .heavyIs) ∙ h))
-
 module _ (t : List ℕ) (valid : validTable t ≡ true) {pr : Pair} {buffer places : List ℕ} {kept′ first second moved fresh′ : ℕ} {heavy′ : Bool}
-    (s : Seen t pr buffer places kept′ first second moved fresh′ heavy′) (h : heavy′ ≡ false) where
+    (s : Seen t pr buffer places kept′ first second moved fresh′ heavy′) where
   after : (a b : ℕ) → a ≡ cond (eqb first moved) 1 0 → b ≡ cond (eqb second moved) 1 0
       → length (resolve (domains t) pr (tableRows t)) ≡ rowCount t - a - b + fresh′
   unfolding removed gone
@@ -206,10 +202,9 @@ module _ (t : List ℕ) (valid : validTable t ≡ true) {pr : Pair} {buffer plac
       let e : length rs - removed pr rs ≡ rowCount t - a - b = rw (← fa, ← fb) (omega arith) in
       s .freshIs ∙ ap (λ k. k + fresh′) e
 
-  pub planned-full : (shape : Shape) → shape ≡ shapeOf t → (a b room : ℕ) → a ≡ cond (eqb first moved) 1 0 → b ≡ cond (eqb second moved) 1 0
-      → room ≡ capacity (length t) (shape .variables) → room < shape .count - a - b + fresh′ → Planned t pr buffer places kept′ moved 12
-  planned-full shape e = rw e (λ a b room ea eb er l. planned 12 s (says-full _ _ _ (sym (s .heavyIs) ∙ h) (rw (after a b ea eb, ← er) l)))
-
-  pub planned-fits : (shape : Shape) → shape ≡ shapeOf t → (a b room : ℕ) → a ≡ cond (eqb first moved) 1 0 → b ≡ cond (eqb second moved) 1 0
-      → room ≡ capacity (length t) (shape .variables) → shape .count - a - b + fresh′ ≤ room → Planned t pr buffer places kept′ moved 0
-  planned-fits shape e = rw e (λ a b room ea eb er l. planned 0 s (says-fits _ _ _ (sym (s .heavyIs) ∙ h) (rw (after a b ea eb, ← er) l)))
+  pub surveyed : (shape : Shape) → shape ≡ shapeOf t → (a b room number : ℕ) → a ≡ cond (eqb first moved) 1 0 → b ≡ cond (eqb second moved) 1 0
+      → room ≡ capacity (length t) (shape .variables) → number ≡ cond heavy′ 11 (cond (ltb room (shape .count - a - b + fresh′)) 12 0)
+      → Surveyed t pr buffer places kept′ moved number
+  surveyed shape e =
+      rw e (λ a b room number ea eb er n.
+      planned number s (rw (s .heavyIs, ← after a b ea eb, er) at n ∙ says-all (capacityOf t) pr (resolve (domains t) pr (tableRows t))))

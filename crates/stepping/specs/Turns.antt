@@ -1,4 +1,4 @@
--- What the look and the writes of a step do, one clause after another, on raw rows.
+-- Inner: what the look and the writes of a step do, one clause after another, on raw rows.
 use Prim.Native.Nat.{ℕ, zero, suc, _+_, _-_, _<_, _≤_}
 use mathlib.Core.Path.{_≡_}
 use mathlib.Core.Bool.{Bool, false, _||_, cond}
@@ -13,8 +13,7 @@ use Rattle.rows.specs.declared.Found.the-variants.{At, Missing}
 use Rattle.rows.specs.Raw.{maxWeight, Raw, noRaw, rawsIn, weightIn, rawRow, findFrom, reweighed, without}
 use Rattle.table.specs.Clauses.{clauseFrom}
 use Rattle.table.specs.Layout.{rowsAt}
-use Rattle.table.specs.Meaning.{variablesOf, rowCount, tableRows, domains}
-use Rattle.table.specs.Check.{capacityOf}
+use Rattle.table.specs.Meaning.{variablesOf, rowCount, tableRows, domains, capacityOf}
 use Rattle.stepping.specs.Step.{allowed, refusalOf}
 
 -- the weight of raw row k, 0 past the last
@@ -71,7 +70,7 @@ appendedTo u n places cs qs (suc m) =
 -- ---- the plan of a step
 
 -- what the look at a table leaves: the conclusions that count, where their rows stand, the moved weight, and whether the step may be made
-pub record Planned (t : List ℕ) (pr : Pair) (buffer places : List ℕ) (kept′ moved number : ℕ) : Type 0 where
+pub record Surveyed (t : List ℕ) (pr : Pair) (buffer places : List ℕ) (kept′ moved number : ℕ) : Type 0 where
   pub few : kept′ ≤ 26
   pub packed : PackedBuffer buffer
   pub clauses : clausesIn kept′ buffer ≡ kept (domains t) (conclusionsOf (domains t) pr (tableRows t))

@@ -4,22 +4,22 @@ ghost use mathlib.Core.Bool.{true, cond};
 ghost use Prim.Native.Nat.{ℕ, _+_, _*_, _<_, _≤_};
 ghost use lib.ListN.{length, getD};
 ghost use lib.Dec.{eqb, ltb};
-ghost use Rattle.wcsp.specs.Resolve.{Permitted};
-ghost use Rattle.clause.specs.Packed.{Packed, signsOf};
+ghost use Rattle.wcsp.specs.Resolve.{MayResolve};
+ghost use Rattle.clause.specs.Packed.{FitsBlocks, signsOf};
 ghost use Rattle.conclusions.specs.Buffer.{clausesIn, PackedBuffer};
 ghost use Rattle.rows.specs.Raw.{rowWidth, maxWeight, rawsIn, Laid, Left};
 ghost use Rattle.table.specs.Meaning.{tableRows, domains};
 ghost use Rattle.table.specs.Valid.{validTable};
 ghost use Rattle.table.specs.Check.{shapeOf};
 ghost use Rattle.stepping.specs.Advance.{advanceCall};
-ghost use Rattle.stepping.specs.Turns.{weightAt, placeIn, freshTo, heavyTo, Placed, raisedTo, takenFrom, appendedTo, Planned};
+ghost use Rattle.stepping.specs.Turns.{weightAt, placeIn, freshTo, heavyTo, Placed, raisedTo, takenFrom, appendedTo, Surveyed};
 use clause::Clause;
 use rows::Found;
 use table::Shape;
 
-// A step made, with the number of rows after it and how many of them, in front, were there before; or the number of a refusal.
+// A step made, with the number of rows after it; or the number of a refusal.
 pub enum Advanced {
-    Made(usize, usize),
+    Made(usize),
     Refused(u32),
 }
 
@@ -48,7 +48,7 @@ fn used(weight: u64, moved: u64) -> usize
 
 // Where the clause's row stands; the row count if it has none.
 fn place(t: &[u32], base: usize, count: usize, x: Clause) -> usize
-    requires { ⌜ (base + rowWidth * count ≤ length (now t)) × Packed x ⌝ }
+    requires { ⌜ (base + rowWidth * count ≤ length (now t)) × FitsBlocks x ⌝ }
     ensures { λ r. ⌜ (r ≡ placeIn count (rawsIn (now (t .entry)) base count) (signsOf x)) × (r ≤ count) ⌝ }
 {
     let found = rows::find(t, base, count, x);
@@ -80,7 +80,7 @@ fn look(
     places: &mut [usize; 26],
 ) -> Sight
     requires { ⌜ (base + rowWidth * count ≤ length (now t)) × (kept ≤ 26) × (moved ≤ maxWeight) × PackedBuffer (now buffer) × (length (now places) ≡ 26) ⌝ }
-    ensures { λ r. ⌜ (r .fresh ≡ freshTo count (rawsIn (now (t .entry)) base count) (clausesIn kept (now (buffer .entry))) kept) × (r .heavy ≡ heavyTo moved count (rawsIn (now (t .entry)) base count) (clausesIn kept (now (buffer .entry))) kept) × Placed count (rawsIn (now (t .entry)) base count) (clausesIn kept (now (buffer .entry))) kept (now (places .exit)) × (r .fresh ≤ kept) ⌝ }
+    ensures { λ r. ⌜ (let qs = rawsIn (now (t .entry)) base count in let cs = clausesIn kept (now (buffer .entry)) in (r .fresh ≡ freshTo count qs cs kept) × (r .heavy ≡ heavyTo moved count qs cs kept) × Placed count qs cs kept (now (places .exit)) × (r .fresh ≤ kept)) ⌝ }
 {
     let mut fresh = 0;
     let mut heavy = false;
@@ -101,7 +101,7 @@ fn look(
 
 // The moved weight added to every row that was found.
 fn raise(t: &mut [u32], base: usize, count: usize, places: &[usize; 26], kept: usize, moved: u64)
-    requires { ⌜ Laid (now t) base (rawsIn (now t) base count) × (kept ≤ 26) × ((m : ℕ) → m < kept → weightAt (raisedTo moved (now places) (rawsIn (now t) base count) m) (getD (now places) m 0) + moved ≤ maxWeight) ⌝ }
+    requires { ⌜ (let qs = rawsIn (now t) base count in Laid (now t) base qs × (kept ≤ 26) × ((m : ℕ) → m < kept → weightAt (raisedTo moved (now places) qs m) (getD (now places) m 0) + moved ≤ maxWeight)) ⌝ }
     ensures { λ r. ⌜ Left (now (t .entry)) base (now (t .exit)) (raisedTo moved (now (places .entry)) (rawsIn (now (t .entry)) base count) kept) ⌝ }
 {
     let mut m = 0;
@@ -118,7 +118,7 @@ fn raise(t: &mut [u32], base: usize, count: usize, places: &[usize; 26], kept: u
 // The moved weight taken from row k; a row at 0 is removed. The answer is the number of rows left.
 fn lessen(t: &mut [u32], base: usize, count: usize, k: usize, moved: u64) -> usize
     requires { ⌜ Laid (now t) base (rawsIn (now t) base count) × (k < count) × (moved ≤ weightAt (rawsIn (now t) base count) k) ⌝ }
-    ensures { λ r. ⌜ Left (now (t .entry)) base (now (t .exit)) (takenFrom moved k (rawsIn (now (t .entry)) base count)) × (r ≡ length (takenFrom moved k (rawsIn (now (t .entry)) base count))) ⌝ }
+    ensures { λ r. ⌜ (let qs = takenFrom moved k (rawsIn (now (t .entry)) base count) in Left (now (t .entry)) base (now (t .exit)) qs × (r ≡ length qs)) ⌝ }
 {
     let weight = rows::weight_of(t, base, k);
     if weight == moved {
@@ -140,8 +140,8 @@ fn append_missing(
     kept: usize,
     moved: u64,
 ) -> usize
-    requires { ⌜ Laid (now t) base (rawsIn (now t) base count) × (kept ≤ 26) × (moved ≤ maxWeight) × PackedBuffer (now buffer) × (base + rowWidth * length (appendedTo moved old (now places) (clausesIn kept (now buffer)) (rawsIn (now t) base count) kept) ≤ length (now t)) ⌝ }
-    ensures { λ r. ⌜ Left (now (t .entry)) base (now (t .exit)) (appendedTo moved old (now (places .entry)) (clausesIn kept (now (buffer .entry))) (rawsIn (now (t .entry)) base count) kept) × (r ≡ length (appendedTo moved old (now (places .entry)) (clausesIn kept (now (buffer .entry))) (rawsIn (now (t .entry)) base count) kept)) ⌝ }
+    requires { ⌜ (let qs = rawsIn (now t) base count in Laid (now t) base qs × (kept ≤ 26) × (moved ≤ maxWeight) × PackedBuffer (now buffer) × (base + rowWidth * length (appendedTo moved old (now places) (clausesIn kept (now buffer)) qs kept) ≤ length (now t))) ⌝ }
+    ensures { λ r. ⌜ (let qs = appendedTo moved old (now (places .entry)) (clausesIn kept (now (buffer .entry))) (rawsIn (now (t .entry)) base count) kept in Left (now (t .entry)) base (now (t .exit)) qs × (r ≡ length qs)) ⌝ }
 {
     let mut now = count;
     let mut m = 0;
@@ -155,7 +155,21 @@ fn append_missing(
     now
 }
 
-// The look at the whole step: its conclusions and their places, and whether it may be made. 11 comes before 12.
+// The number of the refusal, 0 for none, where so many rows are left of those that were there: 11 comes before 12.
+fn refusal_of(sight: Sight, left: usize, room: usize) -> u32
+    requires { ⌜ left + sight .fresh < 1048576 ⌝ }
+    ensures { λ r. ⌜ r ≡ cond (sight .heavy) 11 (cond (ltb room (left + sight .fresh)) 12 0) ⌝ }
+{
+    if sight.heavy {
+        return 11;
+    }
+    if room < left + sight.fresh {
+        return 12;
+    }
+    0
+}
+
+// The look at the whole step: its conclusions and their places, and whether it may be made.
 fn survey(
     t: &[u32],
     shape: Shape,
@@ -165,8 +179,8 @@ fn survey(
     buffer: &mut [u32; 104],
     places: &mut [usize; 26],
 ) -> Plan
-    requires { ⌜ (validTable (now t) ≡ true) × (shape ≡ shapeOf (now t)) × Permitted (domains (now t)) (tableRows (now t)) (record { variable = v; first = i; second = j }) × PackedBuffer (now buffer) × (length (now places) ≡ 26) ⌝ }
-    ensures { λ r. ⌜ Planned (now (t .entry)) (record { variable = v; first = i; second = j }) (now (buffer .exit)) (now (places .exit)) (r .kept) (r .moved) (r .number) ⌝ }
+    requires { ⌜ (validTable (now t) ≡ true) × (shape ≡ shapeOf (now t)) × MayResolve (domains (now t)) (tableRows (now t)) (record { variable = v; first = i; second = j }) × PackedBuffer (now buffer) × (length (now places) ≡ 26) ⌝ }
+    ensures { λ r. ⌜ Surveyed (now (t .entry)) (record { variable = v; first = i; second = j }) (now (buffer .exit)) (now (places .exit)) (r .kept) (r .moved) (r .number) ⌝ }
 {
     let n = shape.variables;
     let base = n + 2;
@@ -183,32 +197,18 @@ fn survey(
         fulls,
     );
     let sight = look(t, base, count, buffer, kept, moved, places);
-    if sight.heavy {
-        return Plan {
-            kept,
-            moved,
-            number: 11,
-        };
-    }
     let left = count - used(first, moved) - used(second, moved);
-    if table::room(t.len(), n) < left + sight.fresh {
-        return Plan {
-            kept,
-            moved,
-            number: 12,
-        };
-    }
     Plan {
         kept,
         moved,
-        number: 0,
+        number: refusal_of(sight, left, table::room(t.len(), n)),
     }
 }
 
 // The step on rows i and j of a valid table, a permitted pair on v.
 pub fn advance(t: &mut [u32], shape: Shape, v: u32, i: usize, j: usize) -> Advanced
-    requires { ⌜ (validTable (now t) ≡ true) × (shape ≡ shapeOf (now t)) × Permitted (domains (now t)) (tableRows (now t)) (record { variable = v; first = i; second = j }) ⌝ }
-    ensures { λ r. ⌜ (r ≡ advanceCall (now (t .entry)) (record { variable = v; first = i; second = j }) .answer) × (now (t .exit) ≡ advanceCall (now (t .entry)) (record { variable = v; first = i; second = j }) .table) ⌝ }
+    requires { ⌜ (validTable (now t) ≡ true) × (shape ≡ shapeOf (now t)) × MayResolve (domains (now t)) (tableRows (now t)) (record { variable = v; first = i; second = j }) ⌝ }
+    ensures { λ r. ⌜ record { answer = r; table = now (t .exit) } ≡ advanceCall (now (t .entry)) (record { variable = v; first = i; second = j }) ⌝ }
 {
     let n = shape.variables;
     let base = n + 2;
@@ -224,5 +224,5 @@ pub fn advance(t: &mut [u32], shape: Shape, v: u32, i: usize, j: usize) -> Advan
     let old = lessen(t, base, fewer, i, plan.moved);
     let now = append_missing(t, base, old, count, &buffer, &places, plan.kept, plan.moved);
     t[n + 1] = words::count(now as u32);
-    Advanced::Made(now, old)
+    Advanced::Made(now)
 }

@@ -11,7 +11,7 @@ use borrow.Author.Tests.{eq-eqb, le-leb}
 use Rattle.wcsp.proofs.Lists.{both-true, and-left, and-right}
 use Rattle.words.specs.Layout.{kindOf, payloadOf}
 use Rattle.clause.specs.declared.Clause.{Clause}
-use Rattle.clause.specs.Packed.{Packed, FullSigns}
+use Rattle.clause.specs.Packed.{FitsBlocks, FullSigns}
 use Rattle.fields.specs.Limits.{maxVariables}
 use Rattle.fields.specs.Front.{headIn, headed, goodSizes}
 use Rattle.fields.specs.Entries.{EachSize}
@@ -26,7 +26,7 @@ use Rattle.table.specs.declared.Fulls.the-variants.{Signs, Bad}
 use Rattle.table.specs.declared.Checked.the-variants.{Table, Invalid}
 use Rattle.table.specs.Layout.{capacity}
 use Rattle.table.specs.Meaning.{variablesOf, tableSizes, domains, rowCount, rowsFrom, tableRowsIn, tableRows}
-use Rattle.table.specs.Valid.{isCount, validRows, distinctRows, allZero, validTableIn, validTable}
+use Rattle.table.specs.Valid.{isCount, rowsValid, distinctRows, allZero, validTableIn, validTable}
 use Rattle.table.specs.Check.{fullClause, fullsFrom, shapeOf, checkTable}
 use Rattle.table.proofs.Twelve.{full-signs-padded, full-packed-padded}
 use Rattle.table.proofs.Canonical.{Passed, passed}
@@ -93,7 +93,7 @@ pub record Front (t : List ℕ) (n : ℕ) (f : Clause) : Type 0 where
   pub number : n ≡ variablesOf t
   pub stations : goodSizes n (drop 1 t) ≡ true
   pub fulls : f ≡ fullClause (domains t)
-  pub packed : Packed f
+  pub packed : FitsBlocks f
   pub signs : FullSigns f (domains t)
 
 signs-read : (b : Bool) (f g : Clause) → Signs f ≡ cond b (Signs g) Bad → (b ≡ true) × (f ≡ g)
@@ -143,7 +143,7 @@ module _ (t : List ℕ) (n : ℕ) (f : Clause) (front : Front t n f) where
     unfolding tableRowsIn
     all-rows p =
         rw (counted, front .number)
-        (both-true (validRows (domains t) (rowCount t) (drop (variablesOf t + 2) t)) (distinctRows (tableRows t)) (p .rows) (p .distinct))
+        (both-true (rowsValid (domains t) (rowCount t) (drop (variablesOf t + 2) t)) (distinctRows (tableRows t)) (p .rows) (p .distinct))
 
     pub bad-rows : (r : Bool) → ((ds : List ℕ) → FullSigns f ds → r ≡ AllValid ds k (drop (n + 2) t)) → r ≡ false → Invalid ≡ checkTable t
     bad-rows r v q = refused t (λ p. true≢false (sym (all-rows p) ∙ sym (v (domains t) (front .signs)) ∙ q))
@@ -156,14 +156,14 @@ module _ (t : List ℕ) (n : ℕ) (f : Clause) (front : Front t n f) where
       both : AllValid (domains t) k (drop (n + 2) t) ≡ true
       both = sym (v (domains t) (front .signs)) ∙ g
 
-      rows-good : validRows (domains t) k (drop (n + 2) t) ≡ true
-      rows-good = and-left (validRows (domains t) k (drop (n + 2) t)) (distinctRows (rowsFrom k (drop (n + 2) t))) both
+      rows-good : rowsValid (domains t) k (drop (n + 2) t) ≡ true
+      rows-good = and-left (rowsValid (domains t) k (drop (n + 2) t)) (distinctRows (rowsFrom k (drop (n + 2) t))) both
 
       distinct-good : distinctRows (tableRows t) ≡ true
       unfolding tableRowsIn
       distinct-good =
           rw (← counted, ← (front .number))
-          (and-right (validRows (domains t) k (drop (n + 2) t)) (distinctRows (rowsFrom k (drop (n + 2) t))) both)
+          (and-right (rowsValid (domains t) k (drop (n + 2) t)) (distinctRows (rowsFrom k (drop (n + 2) t))) both)
 
       module _ (room : ℕ) (place : n + 2 ≤ length t) (kind : kindOf (getD t (n + 1) 0) ≡ 10) (q : room ≡ capacity (length t) n) (fits : k ≤ room) where
         valid : validTable t ≡ true

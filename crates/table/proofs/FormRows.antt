@@ -13,7 +13,7 @@ use Rattle.rows.specs.Form.{flatIn, rawsFromIn}
 use Rattle.rows.proofs.FormRows.{length-rawsFrom}
 use Rattle.table.specs.Form.{TableForm}
 use Rattle.table.specs.Meaning.{rowsFromIn}
-use Rattle.table.specs.Valid.{signKinds, validSigns, validRowIn, validRowsIn, hasSigns, distinctRows}
+use Rattle.table.specs.Valid.{signKinds, validSigns, validRowIn, rowsValidIn, hasSigns, distinctRows}
 use Rattle.table.proofs.Carried.{CarriedIn, AllCarriedIn, nilCarried, consCarried}
 use Rattle.table.proofs.ValidParts.{clause-valid, valid-clause, absent-rows}
 use Rattle.table.proofs.TableLaws.{TableLaws}
@@ -64,22 +64,22 @@ module _ (f : TableForm) (law : TableLaws f) where
 
   -- ---- all rows
 
-  pub rows-made : (ds : List ℕ) (k : ℕ) (ws : List ℕ) → validRowsIn f ds k ws ≡ true → rawsFromIn (f .rows) k ws ≡ map (f .rawOf) (rowsFromIn f k ws)
-  unfolding validRowsIn rawsFromIn rowsFromIn
+  pub rows-made : (ds : List ℕ) (k : ℕ) (ws : List ℕ) → rowsValidIn f ds k ws ≡ true → rawsFromIn (f .rows) k ws ≡ map (f .rawOf) (rowsFromIn f k ws)
+  unfolding rowsValidIn rawsFromIn rowsFromIn
   rows-made ds zero ws e = refl
   rows-made ds (suc k) ws e =
       let a = validRowIn f ds ws in
-      let b = validRowsIn f ds k (drop (f .rows .width) ws) in
+      let b = rowsValidIn f ds k (drop (f .rows .width) ws) in
       ap₂ (λ r rs. r ∷ rs) (row-made ds ws (and-left a b e) .raw) (rows-made ds k (drop (f .rows .width) ws) (and-right a b e))
 
-  pub rows-valid : (ds : List ℕ) (k : ℕ) (ws : List ℕ) → length ds ≡ 12 → validRowsIn f ds k ws ≡ true → distinctRows (rowsFromIn f k ws) ≡ true
+  pub rows-valid : (ds : List ℕ) (k : ℕ) (ws : List ℕ) → length ds ≡ 12 → rowsValidIn f ds k ws ≡ true → distinctRows (rowsFromIn f k ws) ≡ true
       → ValidRows ds (rowsFromIn f k ws)
-  unfolding validRowsIn rawsFromIn rowsFromIn distinctRows
+  unfolding rowsValidIn rawsFromIn rowsFromIn distinctRows
   rows-valid ds zero ws h e d = nilRows
   rows-valid ds (suc k) ws h e d =
       let rest = drop (f .rows .width) ws in
       let a = validRowIn f ds ws in
-      let b = validRowsIn f ds k rest in
+      let b = rowsValidIn f ds k rest in
       let o = hasSigns (front ws .signs) (rowsFromIn f k rest) in
       let q = distinctRows (rowsFromIn f k rest) in
       let m = row-made ds ws (and-left a b e) in
@@ -89,8 +89,8 @@ module _ (f : TableForm) (law : TableLaws f) where
       (rows-valid ds k rest h (and-right a b e) (and-right (not o) q d))
 
   pub rows-pass : {ds : List ℕ} {rs : List Row} (ws : List ℕ) → ValidRows ds rs → AllCarriedIn (f .limit) rs
-      → validRowsIn f ds (length rs) (flatIn (f .rows) (map (f .rawOf) rs) ++ ws) ≡ true
-  unfolding validRowsIn flatIn
+      → rowsValidIn f ds (length rs) (flatIn (f .rows) (map (f .rawOf) rs) ++ ws) ≡ true
+  unfolding rowsValidIn flatIn
   rows-pass ws nilRows nilCarried = refl
   rows-pass {ds} ws (consRows {r = r} {rs = rs} v p a t) (consCarried h hs) =
       let row = f .rows .words (f .rawOf r) in

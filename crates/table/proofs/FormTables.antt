@@ -25,8 +25,8 @@ use Rattle.rows.proofs.FormRows.{FormLaws, length-flat, flat-split, rawsFrom-fl
 use Rattle.table.specs.Form.{TableForm}
 use Rattle.table.specs.Layout.{rowsAt, capacityIn, tableWordsIn}
 use Rattle.table.specs.Meaning.{variablesOf, tableSizes, domains, rowCount, rowsFromIn, tableRowsIn}
-use Rattle.table.specs.Valid.{isCount, validFront, withinCapacity, rowsInRange, noTwoEqual, zeroPast, validRowsIn, distinctRows, allZero, validTableIn}
-use Rattle.table.specs.Check.{HoldableIn, ValidIsCanonicalIn, WrittenReadsBackIn}
+use Rattle.table.specs.Valid.{isCount, validFront, withinCapacity, rowsInRange, noTwoEqual, zeroPast, rowsValidIn, distinctRows, allZero, validTableIn}
+use Rattle.table.specs.Twelve.{TwelveHoldableIn, TwelveIsCanonicalIn, TwelveWrittenIn}
 use Rattle.table.proofs.Carried.{AllCarriedIn, carried-valid, carried-light}
 use Rattle.table.proofs.WordTests.{count-made, count-passes}
 use Rattle.table.proofs.ValidParts.{sizes-made, sizes-pass, payloads-sizes, distinct-pass, zeros-made, zeros-pass}
@@ -121,7 +121,7 @@ pub record PassedIn (f : TableForm) (t : List ℕ) : Type 0 where
   pub stations : goodSizes (variablesOf t) (drop 1 t) ≡ true
   pub count : getD t (variablesOf t + 1) 0 ≡ countWord (rowCount t)
   pub fits : rowCount t ≤ capacityIn f (length t) (variablesOf t)
-  pub rows : validRowsIn f (domains t) (rowCount t) (drop (rowsAt (variablesOf t)) t) ≡ true
+  pub rows : rowsValidIn f (domains t) (rowCount t) (drop (rowsAt (variablesOf t)) t) ≡ true
   pub distinct : distinctRows (tableRowsIn f t) ≡ true
   pub zeros : allZero (drop (rowsAt (variablesOf t) + f .rows .width * rowCount t) t) ≡ true
 
@@ -210,7 +210,7 @@ module _ (f : TableForm) (law : TableLaws f) (t : List ℕ) (p : PassedIn f t) w
         behind = rw (e, g) passed-behind;
       }
 
-  passed-holdable : HoldableIn f (length t) (tableSizes t) (tableRowsIn f t)
+  passed-holdable : TwelveHoldableIn f (length t) (tableSizes t) (tableRowsIn f t)
   unfolding tableSizes tableRowsIn domains
   passed-holdable =
       let e = length-sizes in
@@ -226,20 +226,20 @@ module _ (f : TableForm) (law : TableLaws f) (t : List ℕ) (p : PassedIn f t) w
         light = carried-light (carried-rowsFrom f law (rowCount t) (drop (variablesOf t + 2) t));
       }
 
-pub validIsCanonical : (f : TableForm) → TableLaws f → ValidIsCanonicalIn f
-validIsCanonical f law t e =
+pub twelveIsCanonical : (f : TableForm) → TableLaws f → TwelveIsCanonicalIn f
+twelveIsCanonical f law t e =
     let p = passed f t e in
     record { words = put-together t (length t) (tableSizes t) (tableRowsIn f t) (passed-apart f law t p); holdable = passed-holdable f law t p }
 
 -- ---- written, so valid and read back
 
-pub holdable-carried : {f : TableForm} {len : ℕ} {ds : List ℕ} {rs : List Row} → HoldableIn f len ds rs → AllCarriedIn (f .limit) rs
+pub holdable-carried : {f : TableForm} {len : ℕ} {ds : List ℕ} {rs : List Row} → TwelveHoldableIn f len ds rs → AllCarriedIn (f .limit) rs
 holdable-carried {ds = ds} h = carried-valid (padded-length ds (h .few)) (sizes-padded (h .sizes)) (h .valid) (h .light)
 
 read-flat : (f : Form) → FormLaws f → (rs : List (f .Raw)) (n : ℕ) (ws : List ℕ) → length rs ≡ n → rawsFromIn f n (flatIn f rs ++ ws) ≡ rs
 read-flat f law rs n ws e = rw (← e) (rawsFrom-flat f law rs ws)
 
-module _ (f : TableForm) (law : TableLaws f) (t : List ℕ) (ds : List ℕ) (rs : List Row) (a : ApartIn f t (length t) ds rs) (h : HoldableIn f (length t) ds rs) where
+module _ (f : TableForm) (law : TableLaws f) (t : List ℕ) (ds : List ℕ) (rs : List Row) (a : ApartIn f t (length t) ds rs) (h : TwelveHoldableIn f (length t) ds rs) where
   variables-back : variablesOf t ≡ length ds
   variables-back = rw (a .head) (omega (arith, h .few))
 
@@ -282,13 +282,13 @@ module _ (f : TableForm) (law : TableLaws f) (t : List ℕ) (ds : List ℕ) (rs 
   valid-back =
       let n : headIn (getD t 0 0) ≡ some (length ds) = rw (a .head) (h .head) in
       let c : isCount (getD t (length ds + 1) 0) ≡ true = rw (a .count) (count-passes (length rs) small) in
-      let r : validRowsIn f (padded ds) (length rs) (drop (length ds + 2) t) ≡ true = rw (a .behind) (rows-pass f law _ (h .valid) (holdable-carried h)) in
+      let r : rowsValidIn f (padded ds) (length rs) (drop (length ds + 2) t) ≡ true = rw (a .behind) (rows-pass f law _ (h .valid) (holdable-carried h)) in
       rw (n, count-back, domains-back, rows-back, le-leb (length ds + 2) (length t) (h .room), sizes-valid, c, le-leb (length rs) (capacityIn f (length t) (length ds)) (h .fits), r, distinct-pass (h .valid), zeros-valid)
 
-pub writtenReadsBack : (f : TableForm) → TableLaws f → WrittenReadsBackIn f
-writtenReadsBack f law len ds rs h =
+pub twelveWritten : (f : TableForm) → TableLaws f → TwelveWrittenIn f
+twelveWritten f law len ds rs h =
     let t = tableWordsIn f len ds rs in
     let e = length-words f (law .form) len ds rs (room-rows f len (length ds) (length rs) (h .room) (h .fits)) in
     let a : ApartIn f t (length t) ds rs = subst (λ m. ApartIn f t m ds rs) (sym e) (words-apart f len ds rs) in
-    let k : HoldableIn f (length t) ds rs = rw e h in
+    let k : TwelveHoldableIn f (length t) ds rs = rw e h in
     record { long = e; valid = valid-back f law t ds rs a k; sizes = sizes-back f law t ds rs a k; rows = rows-back f law t ds rs a k }

@@ -12,7 +12,7 @@ use borrow.Author.Tests.{eq-eqb, ne-eqb}
 use Rattle.wcsp.specs.Sign.{full}
 use Rattle.words.specs.Layout.{payloadOf}
 use Rattle.clause.specs.declared.Clause.{Clause}
-use Rattle.clause.specs.Packed.{signsOf, Packed, Holds}
+use Rattle.clause.specs.Packed.{signsOf, FitsBlocks, Holds}
 use Rattle.fields.specs.Front.{sizeIn, goodSizes}
 use Rattle.fields.specs.Padding.{padded}
 use Rattle.fields.proofs.Fronts.{size-some}
@@ -53,7 +53,7 @@ more-full xs d m e =
 
 -- the full signs of the first i sizes, with those of one value behind
 pub record Filled (ws : List ℕ) (n i : ℕ) (f : Clause) : Type 0 where
-  pub packed : Packed f
+  pub packed : FitsBlocks f
   pub signs : signsOf f ≡ map full (padded (map payloadOf (take i ws)))
   pub tested : goodSizes n ws ≡ goodSizes (n - i) (drop i ws)
 

@@ -5,33 +5,33 @@ use mathlib.Core.Bool.{true}
 use mathlib.Core.List.{List}
 use lib.ListN.{length}
 use Rattle.wcsp.specs.Row.{Row}
-use Rattle.fields.specs.Padding.{padded}
 use Rattle.table.specs.Layout.{capacity, tableWords}
-use Rattle.table.specs.Meaning.{variablesOf, rowCount, tableSizes, tableRows, domains}
+use Rattle.table.specs.Meaning.{variablesOf, rowCount, tableSizes, tableRows, capacityOf}
 use Rattle.table.specs.Valid.{validTable}
-use Rattle.table.specs.Check.{capacityOf, Holdable, ReadsBack}
-use Rattle.table.proofs.Canonical.{writtenReadsBack}
+use Rattle.table.specs.Raws.{standardForm}
+use Rattle.table.specs.Theorems.{ReadsBackAs}
+use Rattle.table.specs.Twelve.{TwelveHoldable}
+use Rattle.table.proofs.Canonical.{twelveWritten}
 use Rattle.table.proofs.Finishing.{valid-variables, valid-count}
 
-pub record Held (t : List ℕ) (len : ℕ) (ds : List ℕ) (rs : List Row) : Type 0 where
+-- the slice t holds these sizes and rows, as it is read
+pub record HeldAs (rowsRead : List ℕ → List Row) (t : List ℕ) (len : ℕ) (ds : List ℕ) (rs : List Row) : Type 0 where
   pub words : t ≡ tableWords len ds rs
   pub valid : validTable t ≡ true
   pub long : length t ≡ len
   pub sizes : tableSizes t ≡ ds
-  pub rows : tableRows t ≡ rs
+  pub rows : rowsRead t ≡ rs
   pub variables : variablesOf t ≡ length ds
   pub counted : rowCount t ≡ length rs
-  pub domained : domains t ≡ padded ds
   pub capacious : capacityOf t ≡ capacity len (length ds)
 
-pub held : (t : List ℕ) (len : ℕ) (ds : List ℕ) (rs : List Row) → Holdable len ds rs → t ≡ tableWords len ds rs → Held t len ds rs
-unfolding domains
-held t len ds rs h e =
-    let b : ReadsBack len ds rs = writtenReadsBack len ds rs h in
+pub held-as : (rowsRead : List ℕ → List Row) → ((t : List ℕ) → validTable t ≡ true → length (rowsRead t) ≡ rowCount t) → (t : List ℕ) (len : ℕ)
+    (ds : List ℕ) (rs : List Row) → ReadsBackAs standardForm rowsRead len ds rs → t ≡ tableWords len ds rs → HeldAs rowsRead t len ds rs
+held-as rowsRead long t len ds rs b e =
     let v : validTable t ≡ true = rw e (b .valid) in
     let l : length t ≡ len = rw e (b .long) in
     let s : tableSizes t ≡ ds = rw e (b .sizes) in
-    let r : tableRows t ≡ rs = rw e (b .rows) in
+    let r : rowsRead t ≡ rs = rw e (b .rows) in
     let n : variablesOf t ≡ length ds = sym (valid-variables t v) ∙ ap length s in
     record {
       words = e;
@@ -40,7 +40,13 @@ held t len ds rs h e =
       sizes = s;
       rows = r;
       variables = n;
-      counted = sym (valid-count t v) ∙ ap length r;
-      domained = ap padded s;
+      counted = sym (long t v) ∙ ap length r;
       capacious = ap₂ capacity l n;
     }
+
+-- in twelve signs
+abbrev pub TwelveHeld : List ℕ → ℕ → List ℕ → List Row → Type 0
+TwelveHeld t len ds rs = HeldAs tableRows t len ds rs
+
+pub twelve-held : (t : List ℕ) (len : ℕ) (ds : List ℕ) (rs : List Row) → TwelveHoldable len ds rs → t ≡ tableWords len ds rs → TwelveHeld t len ds rs
+twelve-held t len ds rs h e = held-as tableRows valid-count t len ds rs (twelveWritten len ds rs h) e

@@ -19,3 +19,4 @@ pub mod Tested
 pub mod Reading
 pub mod Weighing
 pub mod Held
+pub mod Own

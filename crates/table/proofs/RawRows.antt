@@ -7,15 +7,18 @@ use mathlib.Core.Bool.{true, _&&_}
 use mathlib.Core.List.{List, [], _∷_, _++_, map}
 use lib.ListN.{length, getD, drop}
 use Rattle.wcsp.specs.Row.{Row}
+use Rattle.wcsp.specs.Widening.{wide}
+use Rattle.wcsp.proofs.WideningClauses.{getD-wide}
 use Rattle.wcsp.specs.Resolve.{noRow}
 use Rattle.wcsp.proofs.Lists.{and-left, and-right}
+use Rattle.words.specs.Layout.{packed}
 use Rattle.clause.specs.declared.Clause.{Clause}
-use Rattle.clause.specs.Packed.{signsOf, Packed}
+use Rattle.clause.specs.Packed.{signsOf, FitsBlocks}
 use Rattle.rows.specs.Raw.{rowWidth, maxWeight, Raw, noRaw, rawWords, rawAt, rawsIn, weightIn, rowWeighs, signWords, rawRow, clauseIn}
 use Rattle.rows.proofs.Flat.{rowLaws, length-rawsFrom, raw-at}
 use Rattle.rows.proofs.RowWords.{clauseIn-rawRow, weight-most, weight-rawRow, weight-none, weight-made, weight-positive, weight-passes, row-of-words}
 use Rattle.table.specs.Clauses.{clauseFrom}
-use Rattle.table.specs.Raws.{rowOf, rawOf, tableForm}
+use Rattle.table.specs.Raws.{rowOf, rawOf, standardForm}
 use Rattle.table.specs.Meaning.{rowsFromIn, rowsFrom}
 use Rattle.table.specs.Valid.{isSigns, signKinds}
 use Rattle.table.proofs.Twelve.{twelve-signsOf, signs-clauseFrom, packed-clauseFrom, clauseFrom-signs}
@@ -34,7 +37,7 @@ pub rowOf-weight : (r : Raw) → rowOf r .weight ≡ weightIn r
 unfolding rowOf
 rowOf-weight r = refl
 
-pub packed-clauseIn : (r : Raw) → Packed (clauseIn r)
+pub packed-clauseIn : (r : Raw) → FitsBlocks (clauseIn r)
 packed-clauseIn r = record { a = omega arith; b = omega arith; c = omega arith; d = omega arith }
 
 carries : (r : Raw) → Carried (rowOf r)
@@ -43,7 +46,7 @@ carries r = record { twelve = twelve-signsOf (clauseIn r) (packed-clauseIn r); l
 
 -- ---- the raw row that says it
 
-rowOf-rawRow : (x : Clause) (w : ℕ) → Packed x → w ≤ maxWeight → rowOf (rawRow x w) ≡ record { signs = signsOf x; weight = w }
+rowOf-rawRow : (x : Clause) (w : ℕ) → FitsBlocks x → w ≤ maxWeight → rowOf (rawRow x w) ≡ record { signs = signsOf x; weight = w }
 unfolding rowOf
 rowOf-rawRow x w p h =
     let e = clauseIn-rawRow x w p in
@@ -86,7 +89,17 @@ signs-pass r ws h =
 weight-pass : (r : Row) (ws : List ℕ) → Carried r → 0 < r .weight → rowWeighs (rawWords (rawOf r) ++ ws) ≡ true
 weight-pass r ws h p = weight-passes (signWords _ _ _ _) (r .weight) ws p (h .light)
 
-pub tableLaws : TableLaws tableForm
+clause-wide : (k : ℕ) (c : List ℕ) → clauseFrom (wide k c) ≡ clauseFrom c
+clause-wide k c =
+    let at = getD-wide k c in
+    λ i. record {
+      a = packed (at 0 i) (at 1 i) (at 2 i);
+      b = packed (at 3 i) (at 4 i) (at 5 i);
+      c = packed (at 6 i) (at 7 i) (at 8 i);
+      d = packed (at 9 i) (at 10 i) (at 11 i);
+    }
+
+pub tableLaws : TableLaws standardForm
 tableLaws =
     record {
       form = rowLaws;
@@ -94,6 +107,7 @@ tableLaws =
       says = rowOf-rawOf;
       made = made;
       positive = positive;
+      widens = λ k r. ap (λ x. rawRow x (r .weight)) (clause-wide k (r .signs));
       signs-pass = signs-pass;
       weight-passes = weight-pass;
     }
@@ -101,13 +115,13 @@ tableLaws =
 -- ---- so the rows of a table
 
 pub length-rowsFrom : (k : ℕ) (ws : List ℕ) → length (rowsFrom k ws) ≡ k
-length-rowsFrom k ws = forms.length-rowsFrom tableForm k ws
+length-rowsFrom k ws = forms.length-rowsFrom standardForm k ws
 
 pub rows-raws : {rs : List Row} → AllCarried rs → map rowOf (map rawOf rs) ≡ rs
-rows-raws h = forms.rows-raws tableForm tableLaws h
+rows-raws h = forms.rows-raws standardForm tableLaws h
 
 pub carried-rowsFrom : (k : ℕ) (ws : List ℕ) → AllCarried (rowsFrom k ws)
-carried-rowsFrom k ws = forms.carried-rowsFrom tableForm tableLaws k ws
+carried-rowsFrom k ws = forms.carried-rowsFrom standardForm tableLaws k ws
 
 mapped-at : (rs : List Raw) (k : ℕ) → k < length rs → getD (map rowOf rs) k noRow ≡ rowOf (getD rs k noRaw)
 mapped-at [] k h = absurd (omega arith)

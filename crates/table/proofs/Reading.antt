@@ -7,7 +7,7 @@ use mathlib.Core.List.{List, map}
 use lib.ListN.{length, getD}
 use Rattle.wcsp.specs.Row.{ValidRows}
 use Rattle.wcsp.specs.Resolve.{noRow}
-use Rattle.clause.specs.Packed.{Packed, FullSigns}
+use Rattle.clause.specs.Packed.{FitsBlocks, FullSigns}
 use Rattle.fields.proofs.Padding.{padded-length}
 use Rattle.table.proofs.FormTables.{holdable-carried}
 use Rattle.table.proofs.Carried.{AllCarried}
@@ -20,7 +20,7 @@ use Rattle.table.specs.Check.{fullClause, shapeOf}
 use Rattle.table.specs.Raws.{rowOf, rawOf}
 use Rattle.table.proofs.Twelve.{full-signs-padded, full-packed-padded}
 use Rattle.table.proofs.RawRows as raws
-use Rattle.table.proofs.Canonical.{passed, validIsCanonical}
+use Rattle.table.proofs.Canonical.{passed, twelveIsCanonical}
 use Rattle.table.proofs.Finishing.{valid-count, valid-room, valid-raws, valid-laid}
 
 -- what a valid table of n variables and this many rows is to its readers
@@ -31,7 +31,7 @@ pub record Ready (t : List ℕ) (n count : ℕ) : Type 0 where
   pub carried : AllCarried (tableRows t)
   pub light : tooHeavy (tableRows t) ≡ false
   pub fulls : FullSigns (fullClause (domains t)) (domains t)
-  pub packed : Packed (fullClause (domains t))
+  pub packed : FitsBlocks (fullClause (domains t))
   pub twelve : length (domains t) ≡ 12
   pub raws : rawsIn t (n + 2) count ≡ map rawOf (tableRows t)
   pub long : length (tableRows t) ≡ count
@@ -42,7 +42,7 @@ pub record Ready (t : List ℕ) (n count : ℕ) : Type 0 where
 pub ready : (t : List ℕ) → validTable t ≡ true → Ready t (variablesOf t) (rowCount t)
 unfolding domains
 ready t v =
-    let h = validIsCanonical t v .holdable in
+    let h = twelveIsCanonical t v .holdable in
     record {
       variables = refl;
       counted = refl;

@@ -18,9 +18,9 @@ use Rattle.clause.specs.Packed.{signsOf, FullSigns}
 use Rattle.rows.specs.declared.Found.{Found}
 use Rattle.rows.specs.declared.Found.the-variants.{At, Missing}
 use Rattle.rows.specs.Raw.{rowWidth, rawAt, rawsIn, rawRow, clauseIn, findFrom}
-use Rattle.table.specs.Raws.{rawOf, tableForm}
+use Rattle.table.specs.Raws.{rawOf, standardForm}
 use Rattle.table.specs.Meaning.{rowsFrom}
-use Rattle.table.specs.Valid.{validRow, validRowsIn, validRows, hasSigns, distinctRows}
+use Rattle.table.specs.Valid.{validRow, rowsValidIn, rowsValid, hasSigns, distinctRows}
 use Rattle.table.proofs.ValidParts.{absent-rows, rows-absent}
 use Rattle.table.proofs.FormRows.{rows-made}
 use Rattle.table.proofs.RawRows.{tableLaws, signs-at, carried-rowsFrom, length-rowsFrom}
@@ -28,20 +28,20 @@ use Rattle.table.proofs.Finding.{found-at, found-missing}
 
 -- ---- rows by their places
 
-pub rows-each : (ds : List ℕ) (k : ℕ) (ws : List ℕ) → validRows ds k ws ≡ true → (i : ℕ) → i < k → validRow ds (drop (rowWidth * i) ws) ≡ true
-unfolding validRowsIn
+pub rows-each : (ds : List ℕ) (k : ℕ) (ws : List ℕ) → rowsValid ds k ws ≡ true → (i : ℕ) → i < k → validRow ds (drop (rowWidth * i) ws) ≡ true
+unfolding rowsValidIn
 rows-each ds zero ws e i h = absurd (omega arith)
-rows-each ds (suc k) ws e zero h = and-left (validRow ds ws) (validRows ds k (drop rowWidth ws)) e
+rows-each ds (suc k) ws e zero h = and-left (validRow ds ws) (rowsValid ds k (drop rowWidth ws)) e
 rows-each ds (suc k) ws e (suc i) h =
     let q : rowWidth * suc i ≡ rowWidth + rowWidth * i = omega arith in
     rw (q, ← drop-drop (rowWidth * i) rowWidth ws)
-    (rows-each ds k (drop rowWidth ws) (and-right (validRow ds ws) (validRows ds k (drop rowWidth ws)) e) i (le-of-suc-le-suc h))
+    (rows-each ds k (drop rowWidth ws) (and-right (validRow ds ws) (rowsValid ds k (drop rowWidth ws)) e) i (le-of-suc-le-suc h))
 
-pub each-rows : (ds : List ℕ) (k : ℕ) (ws : List ℕ) → ((i : ℕ) → i < k → validRow ds (drop (rowWidth * i) ws) ≡ true) → validRows ds k ws ≡ true
-unfolding validRowsIn
+pub each-rows : (ds : List ℕ) (k : ℕ) (ws : List ℕ) → ((i : ℕ) → i < k → validRow ds (drop (rowWidth * i) ws) ≡ true) → rowsValid ds k ws ≡ true
+unfolding rowsValidIn
 each-rows ds zero ws f = refl
 each-rows ds (suc k) ws f =
-    both-true (validRow ds ws) (validRows ds k (drop rowWidth ws)) (f 0 (omega arith)) (each-rows ds k (drop rowWidth ws) later)
+    both-true (validRow ds ws) (rowsValid ds k (drop rowWidth ws)) (f 0 (omega arith)) (each-rows ds k (drop rowWidth ws) later)
   where
     later : (i : ℕ) → i < k → validRow ds (drop (rowWidth * i) (drop rowWidth ws)) ≡ true
     later i h =
@@ -98,7 +98,7 @@ none-tested ds t base = record { rows = λ i h. absurd (omega arith); apart = λ
 
 -- what the test of all rows is to answer
 abbrev pub AllValid : List ℕ → ℕ → List ℕ → Bool
-AllValid ds count ws = validRows ds count ws && distinctRows (rowsFrom count ws)
+AllValid ds count ws = rowsValid ds count ws && distinctRows (rowsFrom count ws)
 
 module _ (ds t : List ℕ) (base count : ℕ) where
   abbrev rows : List Row
@@ -106,7 +106,7 @@ module _ (ds t : List ℕ) (base count : ℕ) where
 
   all-tested : Tested ds t base count → true ≡ AllValid ds count (drop base t)
   all-tested d =
-      sym (both-true (validRows ds count (drop base t)) (distinctRows rows) (each-rows ds count (drop base t) (d .rows)) (apart-distinct rows apart))
+      sym (both-true (rowsValid ds count (drop base t)) (distinctRows rows) (each-rows ds count (drop base t) (d .rows)) (apart-distinct rows apart))
     where
       apart : Apart rows
       apart j h i l =
@@ -118,13 +118,13 @@ module _ (ds t : List ℕ) (base count : ℕ) where
   row-bad k h e =
       sym
       (ne-true (AllValid ds count (drop base t))
-      (λ v. false≢true (sym e ∙ rows-each ds count (drop base t) (and-left (validRows ds count (drop base t)) (distinctRows rows) v) k h)))
+      (λ v. false≢true (sym e ∙ rows-each ds count (drop base t) (and-left (rowsValid ds count (drop base t)) (distinctRows rows) v) k h)))
 
   pair-bad : (i k : ℕ) → i < k → k < count → same (signsAt t base i) (signsAt t base k) ≡ true → false ≡ AllValid ds count (drop base t)
   pair-bad i k l h e =
       sym
       (ne-true (AllValid ds count (drop base t))
-      (λ v. let d = distinct-apart rows (and-right (validRows ds count (drop base t)) (distinctRows rows) v) in
+      (λ v. let d = distinct-apart rows (and-right (rowsValid ds count (drop base t)) (distinctRows rows) v) in
       let h′ : k < length rows = omega (arith, length-rowsFrom count (drop base t)) in
       let l′ : i < count = omega arith in
       true≢false (sym e ∙ rw (signs-at t base count i l′, signs-at t base count k h) at (d k h′ i l))))
@@ -133,7 +133,7 @@ module _ (ds t : List ℕ) (base count : ℕ) where
 
 module _ (t : List ℕ) (base k : ℕ) (x : Clause) (p : x ≡ clauseIn (rawAt t (base + rowWidth * k))) (ds : List ℕ) (tested : Tested ds t base k) where
   raws : rawsIn t base k ≡ map rawOf (rowsFrom k (drop base t))
-  raws = rows-made tableForm tableLaws ds k (drop base t) (each-rows ds k (drop base t) (tested .rows))
+  raws = rows-made standardForm tableLaws ds k (drop base t) (each-rows ds k (drop base t) (tested .rows))
 
   pair-here : (m : ℕ) → findFrom (rawRow x 0) 0 (rawsIn t base k) ≡ At m → (m < k) × (same (signsAt t base m) (signsAt t base k) ≡ true)
   pair-here m e =

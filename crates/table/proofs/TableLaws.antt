@@ -4,6 +4,7 @@ use mathlib.Core.Path.{_≡_}
 use mathlib.Core.Bool.{true}
 use mathlib.Core.List.{List, _++_}
 use Rattle.wcsp.specs.Row.{Row}
+use Rattle.wcsp.specs.Widening.{wideRow}
 use Rattle.rows.proofs.FormRows.{FormLaws}
 use Rattle.table.specs.Form.{TableForm}
 use Rattle.table.specs.Valid.{signKinds}
@@ -17,6 +18,8 @@ pub record TableLaws (f : TableForm) : Type 0 where
   -- words of the right kinds are those of the raw row that is made from what they say, and the weight is above 0
   pub made : (ws : List ℕ) → signKinds ws ≡ true → f .weighs ws ≡ true → f .rows .read ws 0 ≡ f .rawOf (f .rowOf (f .rows .read ws 0))
   pub positive : (ws : List ℕ) → f .weighs ws ≡ true → 0 < f .rowOf (f .rows .read ws 0) .weight
+  -- further signs that are 0 change no word
+  pub widens : (k : ℕ) (r : Row) → f .rawOf (wideRow k r) ≡ f .rawOf r
   -- the words that are made are of the right kinds
   pub signs-pass : (r : Row) (ws : List ℕ) → CarriedIn (f .limit) r → signKinds (f .rows .words (f .rawOf r) ++ ws) ≡ true
   pub weight-passes : (r : Row) (ws : List ℕ) → CarriedIn (f .limit) r → 0 < r .weight → f .weighs (f .rows .words (f .rawOf r) ++ ws) ≡ true

@@ -16,7 +16,7 @@ use Rattle.wcsp.proofs.Lists.{along-length, along-at}
 use Rattle.words.specs.Layout.{unpacked}
 use Rattle.words.proofs.Packing.{unpacked-packed, packed-unpacked, packed-bounded}
 use Rattle.clause.specs.declared.Clause.{Clause}
-use Rattle.clause.specs.Packed.{signsOf, Packed, FullSigns}
+use Rattle.clause.specs.Packed.{signsOf, FitsBlocks, FullSigns}
 use Rattle.clause.proofs.Signs12.{signsOf-length, sign-small}
 use Rattle.fields.specs.Entries.{EachSize}
 use Rattle.fields.specs.Padding.{padded}
@@ -29,7 +29,7 @@ pub record Twelve (c : List ℕ) : Type 0 where
   pub long : length c ≡ 12
   pub small : (v : ℕ) → getD c v 0 < 256
 
-pub twelve-signsOf : (x : Clause) → Packed x → Twelve (signsOf x)
+pub twelve-signsOf : (x : Clause) → FitsBlocks x → Twelve (signsOf x)
 twelve-signsOf x p = record { long = signsOf-length x; small = sign-small x p }
 
 -- ---- packed and unpacked
@@ -60,7 +60,7 @@ module _ (c : List ℕ) (t : Twelve c) where
       ∙ block 3 (omega arith))
       ∙ block 0 (omega arith)
 
-  pub packed-clauseFrom : Packed (clauseFrom c)
+  pub packed-clauseFrom : FitsBlocks (clauseFrom c)
   packed-clauseFrom =
       record {
         a = packed-bounded _ _ _ (t .small 0) (t .small 1) (t .small 2);
@@ -96,14 +96,14 @@ twelve-full ds h s =
 pub full-signs : (ds : List ℕ) → length ds ≡ 12 → EachSize ds → FullSigns (fullClause ds) ds
 full-signs ds h s = signs-clauseFrom (map full ds) (twelve-full ds h s)
 
-pub full-packed : (ds : List ℕ) → length ds ≡ 12 → EachSize ds → Packed (fullClause ds)
+pub full-packed : (ds : List ℕ) → length ds ≡ 12 → EachSize ds → FitsBlocks (fullClause ds)
 full-packed ds h s = packed-clauseFrom (map full ds) (twelve-full ds h s)
 
 -- the same for the sizes of a table
 pub full-signs-padded : (ds : List ℕ) → length ds ≤ 12 → EachSize ds → FullSigns (fullClause (padded ds)) (padded ds)
 full-signs-padded ds h s = full-signs (padded ds) (padded-length ds h) (sizes-padded s)
 
-pub full-packed-padded : (ds : List ℕ) → length ds ≤ 12 → EachSize ds → Packed (fullClause (padded ds))
+pub full-packed-padded : (ds : List ℕ) → length ds ≤ 12 → EachSize ds → FitsBlocks (fullClause (padded ds))
 full-packed-padded ds h s = full-packed (padded ds) (padded-length ds h) (sizes-padded s)
 
 -- ---- valid clauses

@@ -9,7 +9,7 @@ use Rattle.fields.specs.Front.{frontWords}
 use Rattle.rows.specs.Form.{flatIn}
 use Rattle.rows.specs.Raw.{maxWeight}
 use Rattle.table.specs.Form.{TableForm}
-use Rattle.table.specs.Raws.{tableForm}
+use Rattle.table.specs.Raws.{standardForm}
 
 abbrev pub maxRows : ℕ
 maxRows = 4096
@@ -32,10 +32,10 @@ tableWordsIn f len ds rs =
 -- ---- in the form that every table has
 
 abbrev pub capacity : ℕ → ℕ → ℕ
-capacity len n = capacityIn tableForm len n
+capacity len n = capacityIn standardForm len n
 
 abbrev pub tableWords : ℕ → List ℕ → List Row → List ℕ
-tableWords len ds rs = tableWordsIn tableForm len ds rs
+tableWords len ds rs = tableWordsIn standardForm len ds rs
 
 -- some weight passes the limit
 abbrev pub tooHeavy : List Row → Bool

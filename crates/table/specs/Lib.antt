@@ -6,3 +6,5 @@ pub mod Layout
 pub mod Meaning
 pub mod Valid
 pub mod Check
+pub mod Theorems
+pub mod Twelve

@@ -1,14 +1,15 @@
 -- What a table's words mean, read without asking whether they are valid.
 use Prim.Native.Nat.{ℕ, _+_}
 use mathlib.Core.List.{List, map}
-use lib.ListN.{getD, take, drop}
+use lib.ListN.{length, getD, take, drop}
 use Rattle.wcsp.specs.Row.{Row}
+use Rattle.wcsp.specs.Widening.{trimmed}
 use Rattle.words.specs.Layout.{payloadOf}
 use Rattle.fields.specs.Padding.{padded}
 use Rattle.rows.specs.Form.{rawsFromIn}
 use Rattle.table.specs.Form.{TableForm}
-use Rattle.table.specs.Raws.{tableForm}
-use Rattle.table.specs.Layout.{rowsAt}
+use Rattle.table.specs.Raws.{standardForm}
+use Rattle.table.specs.Layout.{rowsAt, capacity}
 
 -- the number of variables, and their sizes
 abbrev pub variablesOf : List ℕ → ℕ
@@ -33,10 +34,22 @@ unfoldable pub tableRowsIn : TableForm → List ℕ → List Row
 unfolding rowsFromIn
 tableRowsIn f t = rowsFromIn f (rowCount t) (drop (rowsAt (variablesOf t)) t)
 
+-- the rows of the table's own variables: the first n signs of each. In a valid table the others are 0.
+unfoldable pub ownRowsIn : TableForm → List ℕ → List Row
+unfolding tableRowsIn
+ownRowsIn f t = trimmed (variablesOf t) (tableRowsIn f t)
+
 -- ---- in the form that every table has
 
 abbrev pub rowsFrom : ℕ → List ℕ → List Row
-rowsFrom k ws = rowsFromIn tableForm k ws
+rowsFrom k ws = rowsFromIn standardForm k ws
 
 abbrev pub tableRows : List ℕ → List Row
-tableRows t = tableRowsIn tableForm t
+tableRows t = tableRowsIn standardForm t
+
+abbrev pub ownRows : List ℕ → List Row
+ownRows t = ownRowsIn standardForm t
+
+-- how many rows the slice of a table takes
+abbrev pub capacityOf : List ℕ → ℕ
+capacityOf t = capacity (length t) (variablesOf t)

@@ -14,5 +14,5 @@ rowOf r = record { signs = signsOf (clauseIn r); weight = weightIn r }
 abbrev pub rawOf : Row → Raw
 rawOf r = rawRow (clauseFrom (r .signs)) (r .weight)
 
-abbrev pub tableForm : TableForm
-tableForm = record { rows = rowForm; limit = maxWeight; rowOf = rowOf; rawOf = rawOf; weighs = rowWeighs }
+abbrev pub standardForm : TableForm
+standardForm = record { rows = rowForm; limit = maxWeight; rowOf = rowOf; rawOf = rawOf; weighs = rowWeighs }

@@ -10,7 +10,7 @@ use Rattle.wcsp.specs.Row.{Row}
 use Rattle.words.specs.Layout.{kindOf, indexIn}
 use Rattle.fields.specs.Front.{headIn, headed, goodSizes}
 use Rattle.table.specs.Form.{TableForm}
-use Rattle.table.specs.Raws.{tableForm}
+use Rattle.table.specs.Raws.{standardForm}
 use Rattle.table.specs.Layout.{rowsAt, capacityIn}
 use Rattle.table.specs.Meaning.{domains, rowCount, tableRowsIn}
 
@@ -46,10 +46,10 @@ unfoldable pub validRowIn : TableForm → List ℕ → List ℕ → Bool
 unfolding signKinds validSigns
 validRowIn f ds ws = signKinds ws && f .weighs ws && validSigns ds (f .rowOf (f .rows .read ws 0) .signs)
 
-unfoldable pub validRowsIn : TableForm → List ℕ → ℕ → List ℕ → Bool
+unfoldable pub rowsValidIn : TableForm → List ℕ → ℕ → List ℕ → Bool
 unfolding validRowIn
-validRowsIn f ds zero ws = true
-validRowsIn f ds (suc k) ws = validRowIn f ds ws && validRowsIn f ds k (drop (f .rows .width) ws)
+rowsValidIn f ds zero ws = true
+rowsValidIn f ds (suc k) ws = validRowIn f ds ws && rowsValidIn f ds k (drop (f .rows .width) ws)
 
 -- a row of these signs is among the rows; no two rows have equal signs
 unfoldable pub hasSigns : List ℕ → List Row → Bool
@@ -78,7 +78,7 @@ withinCapacity f t n = leb (rowCount t) (capacityIn f (length t) n)
 -- "these words and ranges", "no sign that is full or beyond its station's spots, no sign for stations from n on":
 -- a station from n on has one spot, whose only sign that is not full is 0
 abbrev pub rowsInRange : TableForm → List ℕ → ℕ → Bool
-rowsInRange f t n = validRowsIn f (domains t) (rowCount t) (drop (rowsAt n) t)
+rowsInRange f t n = rowsValidIn f (domains t) (rowCount t) (drop (rowsAt n) t)
 
 -- "no two rows with equal signs"
 abbrev pub noTwoEqual : TableForm → List ℕ → Bool
@@ -89,7 +89,7 @@ abbrev pub zeroPast : TableForm → List ℕ → ℕ → Bool
 zeroPast f t n = allZero (drop (rowsAt n + f .rows .width * rowCount t) t)
 
 unfoldable pub validTableIn : TableForm → List ℕ → Bool
-unfolding validRowsIn distinctRows allZero
+unfolding rowsValidIn distinctRows allZero
 validTableIn f t =
     headed false
     (λ n. validFront t n && withinCapacity f t n && rowsInRange f t n && noTwoEqual f t && zeroPast f t n)
@@ -98,10 +98,10 @@ validTableIn f t =
 -- ---- in the form that every table has
 
 abbrev pub validRow : List ℕ → List ℕ → Bool
-validRow ds ws = validRowIn tableForm ds ws
+validRow ds ws = validRowIn standardForm ds ws
 
-abbrev pub validRows : List ℕ → ℕ → List ℕ → Bool
-validRows ds k ws = validRowsIn tableForm ds k ws
+abbrev pub rowsValid : List ℕ → ℕ → List ℕ → Bool
+rowsValid ds k ws = rowsValidIn standardForm ds k ws
 
 abbrev pub validTable : List ℕ → Bool
-validTable t = validTableIn tableForm t
+validTable t = validTableIn standardForm t

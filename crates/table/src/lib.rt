@@ -7,15 +7,15 @@ ghost use lib.ListN.{length, drop};
 ghost use Rattle.wcsp.specs.Sign.{full};
 ghost use Rattle.wcsp.specs.Row.{emptyWeight};
 ghost use Rattle.words.specs.Layout.{unpacked};
-ghost use Rattle.clause.specs.Packed.{signsOf, Packed, FullSigns};
+ghost use Rattle.clause.specs.Packed.{signsOf, FitsBlocks, FullSigns};
 ghost use Rattle.fields.specs.Limits.{maxVariables, maxValues};
 ghost use Rattle.fields.specs.Front.{headIn, headed, sizeIn};
 ghost use Rattle.rows.specs.Raw.{rowWidth};
 ghost use Rattle.table.specs.declared.Head.the-variants.{Variables, Absent};
 ghost use Rattle.table.specs.Layout.{maxRows, rowsAt, capacity};
 ghost use Rattle.table.specs.Meaning.{variablesOf, rowCount, rowsFrom, tableRows};
-ghost use Rattle.table.specs.Valid.{signKinds, validSigns, validRow, validRows, distinctRows, allZero, allBelow, validTable};
-ghost use Rattle.table.specs.Check.{fullsFrom, checkTable};
+ghost use Rattle.table.specs.Valid.{signKinds, validSigns, validRow, rowsValid, distinctRows, allZero, allBelow, validTable};
+ghost use Rattle.table.specs.Check.{fullsFrom, fullsIn, shapeOf, checkTable};
 use clause::Clause;
 use rows::Found;
 
@@ -113,7 +113,7 @@ fn block_below(x: u32, full: u32) -> bool
 
 // No sign of the clause is full or beyond its variable's values.
 fn signs_valid(x: Clause, fulls: Clause) -> bool
-    requires { ⌜ Packed x × Packed fulls ⌝ }
+    requires { ⌜ FitsBlocks x × FitsBlocks fulls ⌝ }
     ensures { λ r. ⌜ ((ds : List ℕ) → FullSigns fulls ds → r ≡ validSigns ds (signsOf x)) ⌝ }
 {
     if !block_below(x.a, fulls.a) {
@@ -147,7 +147,7 @@ fn signs_there(t: &[u32], at: usize) -> bool
 
 // The words at this place are a row's.
 fn row_valid(t: &[u32], at: usize, fulls: Clause) -> bool
-    requires { ⌜ (at + rowWidth ≤ length (now t)) × Packed fulls ⌝ }
+    requires { ⌜ (at + rowWidth ≤ length (now t)) × FitsBlocks fulls ⌝ }
     ensures { λ r. ⌜ ((ds : List ℕ) → FullSigns fulls ds → r ≡ validRow ds (drop at (now (t .entry)))) ⌝ }
 {
     if !signs_there(t, at) {
@@ -161,8 +161,8 @@ fn row_valid(t: &[u32], at: usize, fulls: Clause) -> bool
 
 // Every row is one, and none has the signs of an earlier row.
 fn rows_valid(t: &[u32], base: usize, count: usize, fulls: Clause) -> bool
-    requires { ⌜ (base + rowWidth * count ≤ length (now t)) × Packed fulls ⌝ }
-    ensures { λ r. ⌜ ((ds : List ℕ) → FullSigns fulls ds → r ≡ (validRows ds count (drop base (now (t .entry))) && distinctRows (rowsFrom count (drop base (now (t .entry)))))) ⌝ }
+    requires { ⌜ (base + rowWidth * count ≤ length (now t)) × FitsBlocks fulls ⌝ }
+    ensures { λ r. ⌜ ((ds : List ℕ) → FullSigns fulls ds → r ≡ (rowsValid ds count (drop base (now (t .entry))) && distinctRows (rowsFrom count (drop base (now (t .entry)))))) ⌝ }
 {
     let mut k = 0;
     let mut at = base;
@@ -254,6 +254,36 @@ pub fn check(t: &[u32]) -> Checked
         count,
         fulls,
     })
+}
+
+// The full signs that were read, no sign where there were none.
+fn fulls_in(read: Fulls) -> Clause
+    ensures { λ r. ⌜ r ≡ fullsIn read ⌝ }
+{
+    match read {
+        Fulls::Signs(fulls) => fulls,
+        Fulls::Bad => Clause {
+            a: 0,
+            b: 0,
+            c: 0,
+            d: 0,
+        },
+    }
+}
+
+// The shape of a valid table, without the test of its rows.
+pub fn read_shape(t: &[u32]) -> Shape
+    requires { ⌜ validTable (now t) ≡ true ⌝ }
+    ensures { λ r. ⌜ r ≡ shapeOf (now (t .entry)) ⌝ }
+{
+    let n = words::payload(t[0]) as usize;
+    let count = words::payload(t[n + 1]) as usize;
+    let fulls = fulls_in(read_fulls(t, n));
+    Shape {
+        variables: n,
+        count,
+        fulls,
+    }
 }
 
 // The empty row's weight in a valid table, 0 if there is none.

@@ -1,4 +1,4 @@
--- Bytes put into a buffer behind those that it holds.
+-- Inner: bytes put into a buffer behind those that it holds.
 use Prim.Native.Nat.{ℕ, _+_}
 use mathlib.Core.Path.{_≡_}
 use mathlib.Core.List.{List, _++_}

@@ -10,7 +10,7 @@ use lib.Dec.{eqb}
 use borrow.Author.Tests.{eqb-true, eqb-false, eq-eqb, ne-eqb}
 use Rattle.wcsp.specs.Clause.{kept}
 use Rattle.wcsp.specs.Row.{Row, ValidRows}
-use Rattle.wcsp.specs.Resolve.{Pair, noRow, lessen, movedWeight, conclusionsOf, resolve, Permitted}
+use Rattle.wcsp.specs.Resolve.{Pair, noRow, lessen, movedWeight, conclusionsOf, resolve, MayResolve}
 use Rattle.wcsp.specs.Theorems.{consApart, Distinct, consDistinct}
 use Rattle.wcsp.proofs.Linear.{lessen-below, lessen-keeps}
 use Rattle.wcsp.proofs.Validity.{valid-signs, valid-lessen}
@@ -28,7 +28,7 @@ pub record Outcome (ds : List ℕ) (pr : Pair) (rs : List Row) : Type 0 where
   pub secondOther : member (getD rs (pr .second) noRow .signs) (keptOf ds pr rs) ≡ false
   pub distinct : Distinct (keptOf ds pr rs)
 
-pub outcome : {ds : List ℕ} {rs : List Row} {pr : Pair} → ValidRows ds rs → Permitted ds rs pr → Outcome ds pr rs
+pub outcome : {ds : List ℕ} {rs : List Row} {pr : Pair} → ValidRows ds rs → MayResolve ds rs pr → Outcome ds pr rs
 unfolding conclusionsOf
 outcome {ds} {rs} {pr} v p = go (distinctConclusions ds (pr .variable) _ _ (valid-signs (pr .first) v h) (valid-signs (pr .second) v (p .inTable)) (p .known) (p .may))
   where
@@ -43,7 +43,7 @@ outcome {ds} {rs} {pr} v p = go (distinctConclusions ds (pr .variable) _ _ (vali
 abbrev pub lessened : ℕ → Pair → List Row → List Row
 lessened u pr rs = lessen u (pr .first) (lessen u (pr .second) rs)
 
-module _ {ds : List ℕ} {rs : List Row} {pr : Pair} (v : ValidRows ds rs) (p : Permitted ds rs pr) where
+module _ {ds : List ℕ} {rs : List Row} {pr : Pair} (v : ValidRows ds rs) (p : MayResolve ds rs pr) where
   -- a premise is still there, with the same signs, once the other is lessened
   first-other : member (getD (lessen (movedWeight pr rs) (pr .second) rs) (pr .first) noRow .signs) (keptOf ds pr rs) ≡ false
   first-other =
@@ -121,7 +121,7 @@ removed-le pr rs = go (eqb (getD rs (pr .first) noRow .weight) (movedWeight pr r
     go false true = omega arith
     go false false = omega arith
 
-module _ {ds : List ℕ} {rs : List Row} {pr : Pair} (v : ValidRows ds rs) (p : Permitted ds rs pr) where
+module _ {ds : List ℕ} {rs : List Row} {pr : Pair} (v : ValidRows ds rs) (p : MayResolve ds rs pr) where
   -- the rows that stay, before any new one
   pub written-length : length (lessened (movedWeight pr rs) pr (raised (movedWeight pr rs) (keptOf ds pr rs) rs)) ≡ length rs - removed pr rs
   written-length =

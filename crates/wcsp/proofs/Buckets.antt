@@ -13,7 +13,7 @@ use lib.Dec.{eqb}
 use borrow.Author.Tests.{eqb-true, eq-eqb, ne-eqb, not-true}
 use Rattle.wcsp.specs.Sign.{has, full, present}
 use Rattle.wcsp.specs.Clause.{InRange, nil, cons, falsifies, bucket}
-use Rattle.wcsp.specs.Rule.{clashing}
+use Rattle.wcsp.specs.Rule.{others, clashing}
 use Rattle.wcsp.proofs.Signs.{has-zero, has-full, has-or}
 use Rattle.wcsp.proofs.Lists.{and-left, and-right}
 
@@ -82,7 +82,7 @@ outside-union d v S T l s t = go (eqb (bitOr S T) (full d)) refl
     go false e = refl
 
 clash-free : {ds q : List ℕ} → InRange ds q → (x y : List ℕ) → falsifies q x ≡ true → falsifies q y ≡ true
-    → clashing ds (length ds) x y ≡ false
+    → clashing ds x y ≡ false
 unfolding clashing falsifies
 clash-free nil x y f g = refl
 clash-free (cons l r) [] y f g = refl
@@ -94,11 +94,12 @@ clash-free (cons {a = d} {b = v} {xs = ds} {ys = q} l r) (S ∷ x) (T ∷ y) f g
     rw (outside-union d v S T l s t, and-false, rest)
 
 pub no-clash : (k : ℕ) (ds q x y : List ℕ) → InRange (drop (suc k) ds) q → k ≤ bucket x → falsifies q (drop (suc k) x) ≡ true
-    → falsifies q (drop (suc k) y) ≡ true → clashing ds k x y ≡ false
+    → falsifies q (drop (suc k) y) ≡ true → clashing ds (others k x) (others k y) ≡ false
 unfolding clashing present
 no-clash k [] q x y r h f g = refl
 no-clash k (d ∷ ds) q [] y r h f g = refl
-no-clash k (d ∷ ds) q (S ∷ x) [] r h f g = refl
+no-clash zero (d ∷ ds) q (S ∷ x) [] r h f g = refl
+no-clash (suc k) (d ∷ ds) q (S ∷ x) [] r h f g = refl
 no-clash zero (d ∷ ds) q (S ∷ x) (T ∷ y) r h f g = clash-free r x y f g
 no-clash (suc k) (d ∷ ds) q (S ∷ x) (T ∷ y) r h f g =
     let (e, l) = bucket-above k S x h in rw (eq-eqb S 0 e) (no-clash k ds q x y r l f g)

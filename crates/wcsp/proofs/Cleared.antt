@@ -19,7 +19,7 @@ use Rattle.wcsp.specs.Clause.{ValidClause}
 use Rattle.wcsp.specs.Row.{Row, ValidRows}
 use Rattle.wcsp.specs.Rule.{nested, permitted}
 use Rattle.wcsp.specs.Resolve.{Pair, noRow, candidate, partner, pairIn, lessen, movedWeight, resolve}
-use Rattle.wcsp.specs.Theorems.{Candidate}
+use Rattle.wcsp.specs.Theorems.{CandidatePair}
 use Rattle.wcsp.proofs.Lists.{and-left, along-length}
 use Rattle.wcsp.proofs.Validity.{valid-signs}
 use Rattle.wcsp.proofs.Linear.{lessen-below}
@@ -66,7 +66,7 @@ pairIn-skip ds s rs (suc i) h f =
 permitted-sym : (ds : List ℕ) (s : ℕ) (x y : List ℕ) → permitted ds s x y ≡ permitted ds s y x
 unfolding permitted nested
 permitted-sym ds s x y =
-    ap₂ (λ a b. not a && not b) (or-comm (within (getD x s 0) (getD y s 0)) (within (getD y s 0) (getD x s 0))) (clashing-sym ds s x y)
+    ap₂ (λ a b. not a && not b) (or-comm (within (getD x s 0) (getD y s 0)) (within (getD y s 0) (getD x s 0))) (clashing-sym ds _ _)
 
 module _ (ds : List ℕ) (s : ℕ) where
   candidate-swap : (x y : List ℕ) → candidate ds s x y ≡ false → candidate ds s y x ≡ false
@@ -109,10 +109,10 @@ permitted-known {ds} {x} s y v m = go (decLt s (length ds))
         absurd (true≢false (sym out ∙ not-true _ (and-left _ _ m)))
 
 -- what the search finds is a candidate
-pub pairIn-candidate : {ds : List ℕ} (s : ℕ) {rs : List Row} {pr : Pair} → ValidRows ds rs → pairIn ds s 0 rs ≡ some pr → Candidate ds rs pr
+pub pairIn-candidate : {ds : List ℕ} (s : ℕ) {rs : List Row} {pr : Pair} → ValidRows ds rs → pairIn ds s 0 rs ≡ some pr → CandidatePair ds rs pr
 pairIn-candidate {ds} s {rs} {pr} v e = go (pairIn-some ds s 0 rs pr e)
   where
-    go : PairIn ds s 0 rs pr → Candidate ds rs pr
+    go : PairIn ds s 0 rs pr → CandidatePair ds rs pr
     go w =
         let one : pr .first ≡ w .a = omega arith in
         let two : pr .second ≡ w .b = omega arith in
@@ -151,7 +151,7 @@ module _ (ds : List ℕ) (rs : List Row) (pr : Pair) (v : ValidRows ds rs) (e : 
   least : PairIn ds s 0 rs pr
   least = pairIn-some ds s 0 rs pr e
 
-  c : Candidate ds rs pr
+  c : CandidatePair ds rs pr
   c = pairIn-candidate s v e
 
   -- the pair is the least, so an earlier one is no candidate

@@ -5,18 +5,20 @@ use Prim.Native.Nat.{ℕ, zero, suc, _<_, _≤_}
 use native.Mathlib.Nat.{le-of-suc-le-suc}
 use native.Mathlib.Omega.{arith}
 use mathlib.Core.Path.{_≡_, refl, sym, ap, ap₂, _∙_}
-use mathlib.Core.Bool.{Bool, true, false, not, _&&_, _||_, cond, false≢true}
+use mathlib.Core.Bool.{Bool, true, false, not, _&&_, _||_, cond, and-false, false≢true}
 use mathlib.Core.List.{List, [], _∷_, _++_, map}
 use lib.ListN.{length, getD}
+use lib.Seq.{getD-set-same}
 use lib.Bits.{bitAnd, bitOr, and-comm, or-comm, or-zero-l, or-zero-r, and-self, and-le-l, and-le-r, or-add-and}
 use lib.Dec.{eqb}
 use borrow.Author.Tests.{eqb-true, eqb-false, not-true}
 use Rattle.wcsp.specs.Sign.{has, full, complement, within, present}
 use Rattle.wcsp.specs.Clause.{nil, cons, ValidClause, same}
-use Rattle.wcsp.specs.Rule.{joined, metAt, excluding, conclusions, clashing, nested, permitted}
+use Rattle.wcsp.specs.Rule.{joined, others, excluding, conclusions, clashing, nested, permitted}
 use Rattle.wcsp.specs.Theorems.{Apart, nilApart, consApart, Distinct, nilDistinct, consDistinct, DistinctConclusions}
 use Rattle.wcsp.proofs.Signs.{has-or, has-complement, or-le-full, outside}
-use Rattle.wcsp.proofs.Lists.{and-left, and-right, or-left, or-right, ne-same}
+use Rattle.wcsp.proofs.Lists.{and-left, and-right, or-left, or-right, ne-same, along-length}
+use Rattle.wcsp.proofs.Validity.{Each, nilEach, consEach, each-append, each-map, each-prefixed, met, bounded-valid, joined-bounded, others-valid}
 
 and-swap : (a b c : Bool) → (a && b && c) ≡ (b && a && c)
 and-swap true true c = refl
@@ -24,20 +26,32 @@ and-swap true false c = refl
 and-swap false true c = refl
 and-swap false false c = refl
 
+-- the signs clash at a variable of d values
+abbrev pub clashAt : ℕ → ℕ → ℕ → Bool
+clashAt d S T = present S && present T && eqb (bitOr S T) (full d)
+
 -- which of two clauses comes first makes no clash
-pub clashing-sym : (ds : List ℕ) (s : ℕ) (x y : List ℕ) → clashing ds s x y ≡ clashing ds s y x
+pub clashing-sym : (ds x y : List ℕ) → clashing ds x y ≡ clashing ds y x
 unfolding clashing
-clashing-sym [] s x y = refl
-clashing-sym (d ∷ ds) s [] [] = refl
-clashing-sym (d ∷ ds) zero [] (T ∷ y) = refl
-clashing-sym (d ∷ ds) (suc s) [] (T ∷ y) = refl
-clashing-sym (d ∷ ds) zero (S ∷ x) [] = refl
-clashing-sym (d ∷ ds) (suc s) (S ∷ x) [] = refl
-clashing-sym (d ∷ ds) zero (S ∷ x) (T ∷ y) = clashing-sym ds (length ds) x y
-clashing-sym (d ∷ ds) (suc s) (S ∷ x) (T ∷ y) =
+clashing-sym [] x y = refl
+clashing-sym (d ∷ ds) [] [] = refl
+clashing-sym (d ∷ ds) [] (T ∷ y) = refl
+clashing-sym (d ∷ ds) (S ∷ x) [] = refl
+clashing-sym (d ∷ ds) (S ∷ x) (T ∷ y) =
     ap₂ (λ a b. a || b)
     (and-swap (present S) (present T) (eqb (bitOr S T) (full d)) ∙ ap (λ n. present T && present S && eqb n (full d)) (or-comm S T))
-    (clashing-sym ds s x y)
+    (clashing-sym ds x y)
+
+-- a variable absent from the one clause makes none, whatever the other has there
+clashing-others : (s : ℕ) (ds x y : List ℕ) → clashing ds x (others s y) ≡ clashing ds (others s x) (others s y)
+unfolding clashing present
+clashing-others s [] x y = refl
+clashing-others s (d ∷ ds) [] y = refl
+clashing-others zero (d ∷ ds) (S ∷ x) [] = refl
+clashing-others (suc s) (d ∷ ds) (S ∷ x) [] = refl
+clashing-others zero (d ∷ ds) (S ∷ x) (T ∷ y) = rw and-false
+clashing-others (suc s) (d ∷ ds) (S ∷ x) (T ∷ y) =
+    ap (λ b. clashAt d S T || b) (clashing-others s ds x y)
 
 -- ---- two signs at one variable
 
@@ -67,10 +81,6 @@ different S T n =
       right-union = omega arith;
       meet-union = omega arith;
     }
-
--- the signs clash at a variable of d values
-abbrev pub clashAt : ℕ → ℕ → ℕ → Bool
-clashAt d S T = present S && present T && eqb (bitOr S T) (full d)
 
 -- with no clash the union is not full
 pub union-below : (d S T : ℕ) → S < full d → T < full d → clashAt d S T ≡ false → bitOr S T < full d
@@ -109,26 +119,13 @@ brought d S T hs ht n = go (outside d (bitOr S T) (union-below d S T hs ht n))
 -- ---- lists of clauses
 
 -- every clause has the sign S at s
-data At (s S : ℕ) : List (List ℕ) → Type 0 where
-  nilAt : At s S []
-  consAt : {c : List ℕ} {cs : List (List ℕ)} → getD c s 0 ≡ S → At s S cs → At s S (c ∷ cs)
-
-at-append : {s S : ℕ} {cs es : List (List ℕ)} → At s S cs → At s S es → At s S (cs ++ es)
-at-append nilAt b = b
-at-append (consAt e a) b = consAt e (at-append a b)
-
-at-here : (S : ℕ) (cs : List (List ℕ)) → At 0 S (map (λ c. S ∷ c) cs)
-at-here S [] = nilAt
-at-here S (c ∷ cs) = consAt refl (at-here S cs)
-
-at-later : {s S : ℕ} (U : ℕ) {cs : List (List ℕ)} → At s S cs → At (suc s) S (map (λ c. U ∷ c) cs)
-at-later U nilAt = nilAt
-at-later U (consAt e a) = consAt e (at-later U a)
+abbrev pub At : ℕ → ℕ → List (List ℕ) → Type 0
+At s S cs = Each (λ c. getD c s 0 ≡ S) cs
 
 -- a clause with another sign at s
 apart-at : {s S : ℕ} (c : List ℕ) {cs : List (List ℕ)} → (getD c s 0 ≡ S → ⊥) → At s S cs → Apart c cs
-apart-at c n nilAt = nilApart
-apart-at {s} c n (consAt {c = b} e a) = consApart (ne-same c b (λ f. n (ap (λ u. getD u s 0) f ∙ e))) (apart-at c n a)
+apart-at c n nilEach = nilApart
+apart-at {s} c n (consEach {c = b} e a) = consApart (ne-same c b (λ f. n (ap (λ u. getD u s 0) f ∙ e))) (apart-at c n a)
 
 apart-append : {c : List ℕ} {cs es : List (List ℕ)} → Apart c cs → Apart c es → Apart c (cs ++ es)
 apart-append nilApart b = b
@@ -157,8 +154,8 @@ distinct-after U nilDistinct = nilDistinct
 distinct-after U (consDistinct a t) = consDistinct (apart-after U U a) (distinct-after U t)
 
 distinct-append : (s S T : ℕ) {cs es : List (List ℕ)} → (S ≡ T → ⊥) → At s S cs → At s T es → Distinct cs → Distinct es → Distinct (cs ++ es)
-distinct-append s S T n nilAt b nilDistinct q = q
-distinct-append s S T n (consAt {c = c} e a) b (consDistinct p t) q =
+distinct-append s S T n nilEach b nilDistinct q = q
+distinct-append s S T n (consEach {c = c} e a) b (consDistinct p t) q =
     consDistinct (apart-append p (apart-at c (λ f. n (sym e ∙ f)) b)) (distinct-append s S T n a b t q)
 
 -- ---- the conclusions
@@ -170,87 +167,92 @@ joined-at s nil nil h = absurd (omega arith)
 joined-at zero (cons r a) (cons q b) h = refl
 joined-at (suc s) (cons r a) (cons q b) h = joined-at s a b (le-of-suc-le-suc h)
 
-pub metAt-at : {ds x y : List ℕ} (s : ℕ) → ValidClause ds x → ValidClause ds y → s < length ds
-    → getD (metAt s x y) s 0 ≡ bitAnd (getD x s 0) (getD y s 0)
-unfolding metAt
-metAt-at s nil nil h = absurd (omega arith)
-metAt-at zero (cons r a) (cons q b) h = refl
-metAt-at (suc s) (cons r a) (cons q b) h = metAt-at s a b (le-of-suc-le-suc h)
+pub met-at : {ds x y : List ℕ} (s : ℕ) → ValidClause ds x → ValidClause ds y → s < length ds
+    → getD (met s x y) s 0 ≡ bitAnd (getD x s 0) (getD y s 0)
+met-at {x = x} {y = y} s a b h =
+    getD-set-same (joined x y) s _ 0 (omega (arith, along-length (joined-bounded (bounded-valid a) (bounded-valid b))))
 
-excluding-at : {ds x y : List ℕ} (s : ℕ) → ValidClause ds x → ValidClause ds y → s < length ds
-    → At s (getD x s 0) (excluding ds s x y)
-unfolding excluding
+pub excluding-at : {ds x y : List ℕ} (s : ℕ) → ValidClause ds x → ValidClause ds y → s < length ds
+    → At s (getD x s 0) (excluding ds x (others s y))
+unfolding excluding present
 excluding-at s nil nil h = absurd (omega arith)
-excluding-at zero (cons {b = S} {xs = ds} {ys = x} r a) (cons {ys = y} q b) h = at-here S (excluding ds (length ds) x y)
+excluding-at zero (cons {b = S} {xs = ds} {ys = x} r a) (cons {ys = y} q b) h = each-prefixed (bitOr S 0) (λ c. or-zero-r S) (excluding ds x y)
 excluding-at (suc s) (cons {a = d} {b = S} {ys = x} r a) (cons {b = T} q b) h =
-    at-append (own (present T)) (at-later (bitOr S T) (excluding-at s a b (le-of-suc-le-suc h)))
+    each-append (own (present T)) (each-map (λ c. bitOr S T ∷ c) (λ c e. e) (excluding-at s a b (le-of-suc-le-suc h)))
   where
     own : (t : Bool) → At (suc s) (getD x s 0) (cond t ((bitOr S (complement d T) ∷ x) ∷ []) [])
-    own true = consAt refl nilAt
-    own false = nilAt
+    own true = consEach refl nilEach
+    own false = nilEach
 
 -- the premise that the group keeps the sign of
-excluding-apart : {ds x y : List ℕ} (s : ℕ) → ValidClause ds x → ValidClause ds y → clashing ds s x y ≡ false → Apart x (excluding ds s x y)
+excluding-apart : {ds x y : List ℕ} → ValidClause ds x → ValidClause ds y → clashing ds x y ≡ false → Apart x (excluding ds x y)
 unfolding excluding clashing
-excluding-apart s nil nil n = nilApart
-excluding-apart zero (cons {b = S} {xs = ds} r a) (cons q b) n = apart-after S S (excluding-apart (length ds) a b n)
-excluding-apart (suc s) (cons {a = d} {b = S} {ys = x} r a) (cons {b = T} q b) n =
-    apart-append (own (present T)) (apart-after S (bitOr S T) (excluding-apart s a b (or-right (clashAt d S T) _ n)))
+excluding-apart nil nil n = nilApart
+excluding-apart (cons {a = d} {b = S} {ys = x} r a) (cons {b = T} q b) n =
+    apart-append (own (present T)) (apart-after S (bitOr S T) (excluding-apart a b (or-right (clashAt d S T) _ n)))
   where
     own : (t : Bool) → Apart (S ∷ x) (cond t ((bitOr S (complement d T) ∷ x) ∷ []) [])
     own true = apart-more 0 (brought d S T r q (or-left (clashAt d S T) _ n) .premise) nilApart
     own false = nilApart
 
-excluding-distinct : {ds x y : List ℕ} (s : ℕ) → ValidClause ds x → ValidClause ds y → clashing ds s x y ≡ false → Distinct (excluding ds s x y)
+excluding-distinct : {ds x y : List ℕ} → ValidClause ds x → ValidClause ds y → clashing ds x y ≡ false → Distinct (excluding ds x y)
 unfolding excluding clashing
-excluding-distinct s nil nil n = nilDistinct
-excluding-distinct zero (cons {b = S} {xs = ds} r a) (cons q b) n = distinct-after S (excluding-distinct (length ds) a b n)
-excluding-distinct (suc s) (cons {a = d} {b = S} {xs = ds} {ys = x} r a) (cons {b = T} {ys = y} q b) n =
-    own (present T) (distinct-after (bitOr S T) (excluding-distinct s a b (or-right (clashAt d S T) _ n)))
+excluding-distinct nil nil n = nilDistinct
+excluding-distinct (cons {a = d} {b = S} {xs = ds} {ys = x} r a) (cons {b = T} {ys = y} q b) n =
+    own (present T) (distinct-after (bitOr S T) (excluding-distinct a b (or-right (clashAt d S T) _ n)))
   where
-    own : (t : Bool) → Distinct (map (λ c. bitOr S T ∷ c) (excluding ds s x y))
-        → Distinct (cond t ((bitOr S (complement d T) ∷ x) ∷ []) [] ++ map (λ c. bitOr S T ∷ c) (excluding ds s x y))
-    own true t = consDistinct (apart-first _ _ x (excluding ds s x y) (brought d S T r q (or-left (clashAt d S T) _ n) .union)) t
+    own : (t : Bool) → Distinct (map (λ c. bitOr S T ∷ c) (excluding ds x y))
+        → Distinct (cond t ((bitOr S (complement d T) ∷ x) ∷ []) [] ++ map (λ c. bitOr S T ∷ c) (excluding ds x y))
+    own true t = consDistinct (apart-first _ _ x (excluding ds x y) (brought d S T r q (or-left (clashAt d S T) _ n) .union)) t
     own false t = t
 
 pub distinctConclusions : DistinctConclusions
 unfolding conclusions permitted
 distinctConclusions ds s x y a b h m =
-    consDistinct first (consDistinct second (consDistinct met (consDistinct union
-    (distinct-append s (getD x s 0) (getD y s 0) (k .sides) group3 group4 (excluding-distinct s a b n) (excluding-distinct s b a n′)))))
+    consDistinct first (consDistinct second (consDistinct meet (consDistinct union
+    (distinct-append s (getD x s 0) (getD y s 0) (k .sides) group3 group4 (excluding-distinct a b′ n) (excluding-distinct b a′ n′)))))
   where
+    a′ : ValidClause ds (others s x)
+    a′ = others-valid s a
+
+    b′ : ValidClause ds (others s y)
+    b′ = others-valid s b
+
     k : Different (getD x s 0) (getD y s 0)
     k = different _ _ (not-true _ (and-left _ _ m))
 
-    n : clashing ds s x y ≡ false
-    n = not-true _ (and-right (not (nested (getD x s 0) (getD y s 0))) _ m)
+    free : clashing ds (others s x) (others s y) ≡ false
+    free = not-true _ (and-right (not (nested (getD x s 0) (getD y s 0))) _ m)
 
-    n′ : clashing ds s y x ≡ false
-    n′ = sym (clashing-sym ds s x y) ∙ n
+    n : clashing ds x (others s y) ≡ false
+    n = clashing-others s ds x y ∙ free
 
-    meets : getD (metAt s x y) s 0 ≡ bitAnd (getD x s 0) (getD y s 0)
-    meets = metAt-at s a b h
+    n′ : clashing ds y (others s x) ≡ false
+    n′ = clashing-others s ds y x ∙ clashing-sym ds (others s y) (others s x) ∙ free
+
+    meets : getD (met s x y) s 0 ≡ bitAnd (getD x s 0) (getD y s 0)
+    meets = met-at s a b h
 
     joins : getD (joined x y) s 0 ≡ bitOr (getD x s 0) (getD y s 0)
     joins = joined-at s a b h
 
-    group3 : At s (getD x s 0) (excluding ds s x y)
+    group3 : At s (getD x s 0) (excluding ds x (others s y))
     group3 = excluding-at s a b h
 
-    group4 : At s (getD y s 0) (excluding ds s y x)
+    group4 : At s (getD y s 0) (excluding ds y (others s x))
     group4 = excluding-at s b a h
 
     first : Apart x (y ∷ conclusions ds s x y)
     first = apart-more s (k .sides) (apart-more s (λ e. k .left-meet (e ∙ meets)) (apart-more s (λ e. k .left-union (e ∙ joins))
-        (apart-append (excluding-apart s a b n) (apart-at x (k .sides) group4))))
+        (apart-append (excluding-apart a b′ n) (apart-at x (k .sides) group4))))
 
     second : Apart y (conclusions ds s x y)
     second = apart-more s (λ e. k .right-meet (e ∙ meets)) (apart-more s (λ e. k .right-union (e ∙ joins))
-        (apart-append (apart-at y (λ e. k .sides (sym e)) group3) (excluding-apart s b a n′)))
+        (apart-append (apart-at y (λ e. k .sides (sym e)) group3) (excluding-apart b a′ n′)))
 
-    met : Apart (metAt s x y) (joined x y ∷ (excluding ds s x y ++ excluding ds s y x))
-    met = apart-more s (λ e. k .meet-union (sym meets ∙ e ∙ joins))
+    meet : Apart (met s x y) (joined x y ∷ (excluding ds x (others s y) ++ excluding ds y (others s x)))
+    meet = apart-more s (λ e. k .meet-union (sym meets ∙ e ∙ joins))
         (apart-append (apart-at _ (λ e. k .left-meet (sym e ∙ meets)) group3) (apart-at _ (λ e. k .right-meet (sym e ∙ meets)) group4))
 
-    union : Apart (joined x y) (excluding ds s x y ++ excluding ds s y x)
+    union : Apart (joined x y) (excluding ds x (others s y) ++ excluding ds y (others s x))
     union = apart-append (apart-at _ (λ e. k .left-union (sym e ∙ joins)) group3) (apart-at _ (λ e. k .right-union (sym e ∙ joins)) group4)

@@ -30,3 +30,9 @@ pub mod Settled
 pub mod Passed
 pub mod Cleared
 pub mod Least
+pub mod WideningClauses
+pub mod WideningRows
+pub mod WideningTables
+pub mod WideningSearch
+pub mod WideningRebuilt
+pub mod Widening

@@ -9,6 +9,7 @@ use lib.ListN.{length, getD}
 use lib.Dec.{eqb}
 use borrow.Author.Tests.{eqb-true, eq-eqb}
 use Rattle.wcsp.specs.Clause.{Along, nil, cons, same}
+use Rattle.wcsp.specs.Rule.{others}
 
 pub and-left : (a b : Bool) → (a && b) ≡ true → a ≡ true
 and-left true b e = refl
@@ -79,3 +80,9 @@ along-at (cons r a) (suc i) h = along-at a i (le-of-suc-le-suc h)
 pub along-map : {R Q : ℕ → ℕ → Type 0} {xs ys : List ℕ} → ((a b : ℕ) → R a b → Q a b) → Along R xs ys → Along Q xs ys
 along-map f nil = nil
 along-map f (cons {a = a} {b = b} r t) = cons (f a b r) (along-map f t)
+
+-- without the sign at s
+pub along-others : {R : ℕ → ℕ → Type 0} {xs ys : List ℕ} (s : ℕ) → ((a b : ℕ) → R a b → R a 0) → Along R xs ys → Along R xs (others s ys)
+along-others s f nil = nil
+along-others zero f (cons {a = a} {b = b} r t) = cons (f a b r) t
+along-others (suc s) f (cons r t) = cons r (along-others s f t)

@@ -15,8 +15,8 @@ use borrow.Author.Tests.{eqb-true, eq-eqb}
 use Rattle.wcsp.specs.Clause.{bucket}
 use Rattle.wcsp.specs.Row.{Row}
 use Rattle.wcsp.specs.Rule.{permitted}
-use Rattle.wcsp.specs.Resolve.{Pair, candidate, nextPair, Permitted}
-use Rattle.wcsp.specs.Theorems.{Candidate, NotAfter, LeastCandidate, NextIsLeast, NoneLeft}
+use Rattle.wcsp.specs.Resolve.{Pair, candidate, nextPair, MayResolve}
+use Rattle.wcsp.specs.Theorems.{CandidatePair, NotAfter, LeastCandidate, NextIsLeast, NoneLeft}
 use Rattle.wcsp.proofs.Lists.{and-left, and-right}
 use Rattle.wcsp.proofs.PairSearch.{signsAt, PairIn, NoPairIn, PairFrom, PairFromView, pairOn, nowhere, pairFrom-view, never}
 
@@ -62,7 +62,7 @@ antisym a b (inr p) (inr q) = go (p .1) (q .1)
         λ i. record { variable = v i; first = f i; second = s i }
 
 module _ (ds : List ℕ) (rs : List Row) where
-  found : (pr : Pair) → PairFrom ds (length ds) 0 rs pr → Candidate ds rs pr
+  found : (pr : Pair) → PairFrom ds (length ds) 0 rs pr → CandidatePair ds rs pr
   found pr v =
       let h = v .pairHere in
       let onV : pr .variable ≡ v .step = h .onVariable ∙ zero-add (v .step) in
@@ -77,15 +77,15 @@ module _ (ds : List ℕ) (rs : List Row) where
       }
 
   -- a candidate passes the test on its variable
-  passes : (pr : Pair) → Candidate ds rs pr → candidate ds (pr .variable) (signsAt rs (pr .first)) (signsAt rs (pr .second)) ≡ true
+  passes : (pr : Pair) → CandidatePair ds rs pr → candidate ds (pr .variable) (signsAt rs (pr .first)) (signsAt rs (pr .second)) ≡ true
   passes pr c = goes-candidate ds (pr .variable) (signsAt rs (pr .first)) (signsAt rs (pr .second))
       (record { firstIn = c .firstIn; secondIn = c .secondIn; may = c .pair .may })
 
-  refuted : (pr : Pair) → Candidate ds rs pr → NoPairIn ds (0 + pr .variable) rs → ⊥
+  refuted : (pr : Pair) → CandidatePair ds rs pr → NoPairIn ds (0 + pr .variable) rs → ⊥
   refuted pr c n = never (candidate ds (pr .variable) (signsAt rs (pr .first)) (signsAt rs (pr .second))) (passes pr c)
       (rw zero-add at (n (pr .first) (pr .second) (c .pair .ordered) (c .pair .inTable)))
 
-  lowest : (pr : Pair) → PairFrom ds (length ds) 0 rs pr → (other : Pair) → Candidate ds rs other → NotAfter pr other
+  lowest : (pr : Pair) → PairFrom ds (length ds) 0 rs pr → (other : Pair) → CandidatePair ds rs other → NotAfter pr other
   lowest pr v other c = go (decLt (other .variable) (v .step)) (decLt (v .step) (other .variable))
     where
       h : PairIn ds (0 + v .step) 0 rs pr
@@ -110,7 +110,7 @@ module _ (ds : List ℕ) (rs : List Row) where
   -- what the next pair's being says
   data NextView : Option Pair → Type 0 where
     next : {pr : Pair} → LeastCandidate ds rs pr → NextView (some pr)
-    nothing : ((pr : Pair) → Candidate ds rs pr → ⊥) → NextView none
+    nothing : ((pr : Pair) → CandidatePair ds rs pr → ⊥) → NextView none
 
   next-view : NextView (nextPair ds rs)
   unfolding nextPair
@@ -126,7 +126,7 @@ module _ (ds : List ℕ) (rs : List Row) where
       out : NextView (some pr) → LeastCandidate ds rs pr
       out (next l) = l
 
-  pub next-permitted : (pr : Pair) → nextPair ds rs ≡ some pr → Permitted ds rs pr
+  pub next-permitted : (pr : Pair) → nextPair ds rs ≡ some pr → MayResolve ds rs pr
   next-permitted pr e = next-least pr e .is .pair
 
   least-next : (pr : Pair) → LeastCandidate ds rs pr → nextPair ds rs ≡ some pr
@@ -142,13 +142,13 @@ nextIsLeast ds rs pr = (next-least ds rs pr, least-next ds rs pr)
 pub noneLeft : NoneLeft
 noneLeft ds rs = (none-all, all-none)
   where
-    none-all : nextPair ds rs ≡ none → (pr : Pair) → Candidate ds rs pr → ⊥
+    none-all : nextPair ds rs ≡ none → (pr : Pair) → CandidatePair ds rs pr → ⊥
     none-all e = out (rw e at (next-view ds rs))
       where
-        out : NextView ds rs none → (pr : Pair) → Candidate ds rs pr → ⊥
+        out : NextView ds rs none → (pr : Pair) → CandidatePair ds rs pr → ⊥
         out (nothing n) = n
 
-    all-none : ((pr : Pair) → Candidate ds rs pr → ⊥) → nextPair ds rs ≡ none
+    all-none : ((pr : Pair) → CandidatePair ds rs pr → ⊥) → nextPair ds rs ≡ none
     all-none n = go (nextPair ds rs) (next-view ds rs)
       where
         go : (o : Option Pair) → NextView ds rs o → o ≡ none

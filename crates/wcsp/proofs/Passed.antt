@@ -8,19 +8,20 @@ use mathlib.Core.Logic.{_⊎_, inl, inr}
 use mathlib.Core.Bool.{Bool, true, false, not, _&&_, _||_, cond, false≢true}
 use mathlib.Core.List.{List, [], _∷_}
 use lib.ListN.{length, getD}
+use lib.Seq.{set-set}
 use lib.Bits.{bitAnd, bitOr, or-zero-r}
 use lib.Dec.{eqb}
 use borrow.Author.Tests.{eqb-true, eqb-false, eq-eqb, not-true}
 use Rattle.wcsp.specs.Sign.{has, full, complement, within, present}
 use Rattle.wcsp.specs.Clause.{ValidClause, nil, cons, bucket}
 use Rattle.wcsp.specs.Row.{Row, ValidRows}
-use Rattle.wcsp.specs.Rule.{joined, metAt, excluding, conclusions, clashing, nested, permitted}
+use Rattle.wcsp.specs.Rule.{joined, others, excluding, conclusions, clashing, nested, permitted}
 use Rattle.wcsp.specs.Resolve.{Pair, candidate, movedWeight, conclusionsOf, resolve}
-use Rattle.wcsp.specs.Theorems.{Candidate}
+use Rattle.wcsp.specs.Theorems.{CandidatePair}
 use Rattle.wcsp.proofs.Signs.{has-full, has-or, has-and, within-has, or-le-full, and-le-full, complement-le-full, sign-ext}
 use Rattle.wcsp.proofs.Lists.{and-left, and-right, both-true, along-at}
-use Rattle.wcsp.proofs.Validity.{Each, nilEach, consEach, each-append, each-map, Bounded, bounded-valid, valid-signs}
-use Rattle.wcsp.proofs.Distinctness.{joined-at, metAt-at}
+use Rattle.wcsp.proofs.Validity.{Each, nilEach, consEach, each-append, each-map, Bounded, bounded-valid, met, others-bounded, others-valid, valid-signs}
+use Rattle.wcsp.proofs.Distinctness.{clashAt, At, joined-at, met-at, excluding-at}
 use Rattle.wcsp.proofs.NextPair.{candidate-goes, goes-candidate}
 use Rattle.wcsp.proofs.Adding.{kept-each}
 use Rattle.wcsp.proofs.AsWritten.{keptOf, resolve-as-written}
@@ -128,75 +129,49 @@ module _ (d U S T : ℕ) (l : U ≤ full d) (h : S ≤ full d) (k : T ≤ full d
   union-nested (inBoth p q) = either-nested d U (bitOr S T) l (or-le-full d S T h k) (inl (λ v e. inside-left S T v (p v e)))
   union-nested (ofBoth p q) = either-nested d U (bitOr S T) l (or-le-full d S T h k) (inr (union-inside S T U p q))
 
--- ---- clauses that hold another besides a variable
+-- ---- clauses that hold another
 
--- besides s the signs of x lie in those of c, and at s the two are as R says
-data Holding (R : ℕ → ℕ → Type 0) : List ℕ → ℕ → List ℕ → List ℕ → Type 0 where
-  nilHolding : {s : ℕ} → Holding R [] s [] []
-  hereHolding : {d S T : ℕ} {ds x c : List ℕ} → R S T → Holding R ds (length ds) x c → Holding R (d ∷ ds) zero (S ∷ x) (T ∷ c)
-  laterHolding : {d S T s : ℕ} {ds x c : List ℕ} → Inside S T → T ≤ full d → Holding R ds s x c
-      → Holding R (d ∷ ds) (suc s) (S ∷ x) (T ∷ c)
+-- the signs of x lie in those of c
+data Holding : List ℕ → List ℕ → List ℕ → Type 0 where
+  nilHolding : Holding [] [] []
+  consHolding : {d S T : ℕ} {ds x c : List ℕ} → Inside S T → T ≤ full d → Holding ds x c → Holding (d ∷ ds) (S ∷ x) (T ∷ c)
 
--- any two signs
-abbrev Any : ℕ → ℕ → Type 0
-Any S T = S ≡ S
+holding-others : (s : ℕ) {ds x c : List ℕ} → Holding ds x c → Holding ds (others s x) (others s c)
+holding-others s nilHolding = nilHolding
+holding-others zero (consHolding {d = d} f l h) = let z : 0 ≤ full d = omega arith in consHolding (λ v e. e) z h
+holding-others (suc s) (consHolding f l h) = consHolding f l (holding-others s h)
 
-union-holds-first : (s : ℕ) {ds x y : List ℕ} → Bounded ds x → Bounded ds y → Holding Any ds s x (joined x y)
+union-holds-first : {ds x y : List ℕ} → Bounded ds x → Bounded ds y → Holding ds x (joined x y)
 unfolding joined
-union-holds-first s nil nil = nilHolding
-union-holds-first zero (cons {xs = ds} h a) (cons k b) = hereHolding refl (union-holds-first (length ds) a b)
-union-holds-first (suc s) (cons {a = d} {b = S} h a) (cons {b = T} k b) =
-    laterHolding (inside-left S T) (or-le-full d S T h k) (union-holds-first s a b)
+union-holds-first nil nil = nilHolding
+union-holds-first (cons {a = d} {b = S} h a) (cons {b = T} k b) =
+    consHolding (inside-left S T) (or-le-full d S T h k) (union-holds-first a b)
 
-union-holds-second : (s : ℕ) {ds x y : List ℕ} → Bounded ds x → Bounded ds y → Holding Any ds s y (joined x y)
+union-holds-second : {ds x y : List ℕ} → Bounded ds x → Bounded ds y → Holding ds y (joined x y)
 unfolding joined
-union-holds-second s nil nil = nilHolding
-union-holds-second zero (cons {xs = ds} h a) (cons k b) = hereHolding refl (union-holds-second (length ds) a b)
-union-holds-second (suc s) (cons {a = d} {b = S} h a) (cons {b = T} k b) =
-    laterHolding (inside-right S T) (or-le-full d S T h k) (union-holds-second s a b)
+union-holds-second nil nil = nilHolding
+union-holds-second (cons {a = d} {b = S} h a) (cons {b = T} k b) =
+    consHolding (inside-right S T) (or-le-full d S T h k) (union-holds-second a b)
 
-meet-holds-first : (s : ℕ) {ds x y : List ℕ} → Bounded ds x → Bounded ds y → Holding Any ds s x (metAt s x y)
-unfolding metAt
-meet-holds-first s nil nil = nilHolding
-meet-holds-first zero (cons {xs = ds} h a) (cons k b) = hereHolding refl (union-holds-first (length ds) a b)
-meet-holds-first (suc s) (cons {a = d} {b = S} h a) (cons {b = T} k b) =
-    laterHolding (inside-left S T) (or-le-full d S T h k) (meet-holds-first s a b)
+holds-itself : {ds x : List ℕ} → Bounded ds x → Holding ds x x
+holds-itself nil = nilHolding
+holds-itself (cons h a) = consHolding (λ v e. e) h (holds-itself a)
 
-meet-holds-second : (s : ℕ) {ds x y : List ℕ} → Bounded ds x → Bounded ds y → Holding Any ds s y (metAt s x y)
-unfolding metAt
-meet-holds-second s nil nil = nilHolding
-meet-holds-second zero (cons {xs = ds} h a) (cons k b) = hereHolding refl (union-holds-second (length ds) a b)
-meet-holds-second (suc s) (cons {a = d} {b = S} h a) (cons {b = T} k b) =
-    laterHolding (inside-right S T) (or-le-full d S T h k) (meet-holds-second s a b)
-
-holds-itself : (s : ℕ) {ds x : List ℕ} → Bounded ds x → Holding _≡_ ds s x x
-holds-itself s nil = nilHolding
-holds-itself zero (cons {xs = ds} h a) = hereHolding refl (holds-itself (length ds) a)
-holds-itself (suc s) (cons h a) = laterHolding (λ v e. e) h (holds-itself s a)
-
-excluding-holds : (s : ℕ) {ds x y : List ℕ} → Bounded ds x → Bounded ds y → Each (Holding _≡_ ds s x) (excluding ds s x y)
+excluding-holds : {ds x y : List ℕ} → Bounded ds x → Bounded ds y → Each (Holding ds x) (excluding ds x y)
 unfolding excluding
-excluding-holds s nil nil = nilEach
-excluding-holds zero (cons {b = S} {xs = ds} h a) (cons k b) =
-    each-map (λ c. S ∷ c) (λ c q. hereHolding refl q) (excluding-holds (length ds) a b)
-excluding-holds (suc s) (cons {a = d} {b = S} {xs = ds} {ys = x} h a) (cons {b = T} k b) =
+excluding-holds nil nil = nilEach
+excluding-holds (cons {a = d} {b = S} {xs = ds} {ys = x} h a) (cons {b = T} k b) =
     each-append (one (present T))
-    (each-map (λ c. bitOr S T ∷ c) (λ c q. laterHolding (inside-left S T) (or-le-full d S T h k) q) (excluding-holds s a b))
+    (each-map (λ c. bitOr S T ∷ c) (λ c q. consHolding (inside-left S T) (or-le-full d S T h k) q) (excluding-holds a b))
   where
-    one : (t : Bool) → Each (Holding _≡_ (d ∷ ds) (suc s) (S ∷ x)) (cond t ((bitOr S (complement d T) ∷ x) ∷ []) [])
+    one : (t : Bool) → Each (Holding (d ∷ ds) (S ∷ x)) (cond t ((bitOr S (complement d T) ∷ x) ∷ []) [])
     one true =
-        consEach (laterHolding (inside-left S (complement d T)) (or-le-full d S (complement d T) h (complement-le-full d T)) (holds-itself s a)) nilEach
+        consEach (consHolding (inside-left S (complement d T)) (or-le-full d S (complement d T) h (complement-le-full d T)) (holds-itself a)) nilEach
     one false = nilEach
-
-holding-sign : {s : ℕ} {ds x c : List ℕ} → Holding _≡_ ds s x c → getD x s 0 ≡ getD c s 0
-holding-sign nilHolding = refl
-holding-sign (hereHolding e h) = e
-holding-sign (laterHolding f l h) = holding-sign h
 
 -- ---- what bars a clause
 
-clash-at : (d U S T : ℕ) → U < full d → T ≤ full d → Inside S T → (present U && present S && eqb (bitOr U S) (full d)) ≡ true
-    → (present U && present T && eqb (bitOr U T) (full d)) ≡ true
+clash-at : (d U S T : ℕ) → U < full d → T ≤ full d → Inside S T → clashAt d U S ≡ true → clashAt d U T ≡ true
 unfolding present
 clash-at d U S T h k f e =
     let p = and-left (present U && present S) (eqb (bitOr U S) (full d)) e in
@@ -212,27 +187,25 @@ clash-at d U S T h k f e =
     there true q = absurd (let z : bitOr U T ≡ U = ap (bitOr U) (eqb-true T 0 q) ∙ or-zero-r U in omega (arith, whole))
     there false q = refl
 
-clash-held : {R : ℕ → ℕ → Type 0} {ds z x c : List ℕ} {s : ℕ} → ValidClause ds z → Holding R ds s x c → clashing ds s z x ≡ true
-    → clashing ds s z c ≡ true
+clash-held : {ds z x c : List ℕ} → ValidClause ds z → Holding ds x c → clashing ds z x ≡ true → clashing ds z c ≡ true
 unfolding clashing
 clash-held nil nilHolding e = e
-clash-held (cons h v) (hereHolding r q) e = clash-held v q e
-clash-held (cons {a = d} {b = U} {xs = ds} {ys = z} h v) (laterHolding {S = S} {T = T} {s = s} {x = x} {c = c} f l q) e =
-    go (either (present U && present S && eqb (bitOr U S) (full d)) (clashing ds s z x) e) (clash-held v q)
+clash-held (cons {a = d} {b = U} {xs = ds} {ys = z} h v) (consHolding {S = S} {T = T} {x = x} {c = c} f l q) e =
+    go (either (clashAt d U S) (clashing ds z x) e) (clash-held v q)
   where
-    go : ((present U && present S && eqb (bitOr U S) (full d)) ≡ true) ⊎ (clashing ds s z x ≡ true)
-        → (clashing ds s z x ≡ true → clashing ds s z c ≡ true)
-        → ((present U && present T && eqb (bitOr U T) (full d)) || clashing ds s z c) ≡ true
-    go (inl p) ih = or-here (present U && present T && eqb (bitOr U T) (full d)) (clashing ds s z c) (clash-at d U S T h l f p)
-    go (inr p) ih = or-there (present U && present T && eqb (bitOr U T) (full d)) (clashing ds s z c) (ih p)
+    go : (clashAt d U S ≡ true) ⊎ (clashing ds z x ≡ true)
+        → (clashing ds z x ≡ true → clashing ds z c ≡ true)
+        → (clashAt d U T || clashing ds z c) ≡ true
+    go (inl p) ih = or-here (clashAt d U T) (clashing ds z c) (clash-at d U S T h l f p)
+    go (inr p) ih = or-there (clashAt d U T) (clashing ds z c) (ih p)
 
 module _ (ds : List ℕ) (s : ℕ) (z x : List ℕ) where
   abbrev Barred : Type 0
-  Barred = (nested (getD z s 0) (getD x s 0) ≡ true) ⊎ (clashing ds s z x ≡ true)
+  Barred = (nested (getD z s 0) (getD x s 0) ≡ true) ⊎ (clashing ds (others s z) (others s x) ≡ true)
 
   barred : permitted ds s z x ≡ false → Barred
   unfolding permitted
-  barred e = go (nested (getD z s 0) (getD x s 0)) (clashing ds s z x) e
+  barred e = go (nested (getD z s 0) (getD x s 0)) (clashing ds (others s z) (others s x)) e
     where
       go : (a b : Bool) → (not a && not b) ≡ false → (a ≡ true) ⊎ (b ≡ true)
       go true b e = inl refl
@@ -242,7 +215,7 @@ module _ (ds : List ℕ) (s : ℕ) (z x : List ℕ) where
   not-permitted : Barred → permitted ds s z x ≡ false
   unfolding permitted
   not-permitted (inl e) = rw e
-  not-permitted (inr e) = go (nested (getD z s 0) (getD x s 0)) (clashing ds s z x) e
+  not-permitted (inr e) = go (nested (getD z s 0) (getD x s 0)) (clashing ds (others s z) (others s x)) e
     where
       go : (a b : Bool) → b ≡ true → (not a && not b) ≡ false
       go true b e = refl
@@ -251,14 +224,18 @@ module _ (ds : List ℕ) (s : ℕ) (z x : List ℕ) where
 -- ---- the conclusions
 
 module _ (ds : List ℕ) (s : ℕ) (z : List ℕ) (vz : ValidClause ds z) where
-  held : (x c : List ℕ) → Holding _≡_ ds s x c → Barred ds s z x → permitted ds s z c ≡ false
-  held x c h (inl n) = not-permitted ds s z c (inl (ap (nested (getD z s 0)) (sym (holding-sign h)) ∙ n))
-  held x c h (inr e) = not-permitted ds s z c (inr (clash-held vz h e))
+  clash-passed : {x c : List ℕ} → Holding ds x c → clashing ds (others s z) (others s x) ≡ true → clashing ds (others s z) (others s c) ≡ true
+  clash-passed h e = clash-held (others-valid s vz) (holding-others s h) e
 
-  -- what is barred from x is barred from x with literals of y
-  group-passed : {x y : List ℕ} → Bounded ds x → Bounded ds y → permitted ds s z x ≡ false
-      → Each (λ c. permitted ds s z c ≡ false) (excluding ds s x y)
-  group-passed {x} a b n = each-weaken (λ c h. held x c h (barred ds s z x n)) (excluding-holds s a b)
+  -- what is barred from x is barred from each clause that holds x and has its sign at s
+  held : (x : List ℕ) → Barred ds s z x → {cs : List (List ℕ)} → At s (getD x s 0) cs → Each (Holding ds x) cs
+      → Each (λ c. permitted ds s z c ≡ false) cs
+  held x b nilEach nilEach = nilEach
+  held x b (consEach {c = c} e es) (consEach h hs) = consEach (not-permitted ds s z c (one b)) (held x b es hs)
+    where
+      one : Barred ds s z x → Barred ds s z c
+      one (inl n) = inl (ap (nested (getD z s 0)) e ∙ n)
+      one (inr n) = inr (clash-passed h n)
 
   module _ (x y : List ℕ) (vx : ValidClause ds x) (vy : ValidClause ds y) (l : s < length ds) (may : permitted ds s x y ≡ true)
       (nx : permitted ds s z x ≡ false) (ny : permitted ds s z y ≡ false) where
@@ -269,27 +246,36 @@ module _ (ds : List ℕ) (s : ℕ) (z : List ℕ) (vz : ValidClause ds z) where
     unfolding permitted
     crossing = not-true _ (and-left _ _ may)
 
-    -- a clause that holds both, with a sign at s that nests where both nest
-    both-passed : (c : List ℕ) → Holding Any ds s x c → Holding Any ds s y c
+    a : Bounded ds x
+    a = bounded-valid vx
+
+    b : Bounded ds y
+    b = bounded-valid vy
+
+    -- a clause that is the union but at s, with a sign there that nests where both nest
+    both-passed : (c : List ℕ) → others s c ≡ others s (joined x y)
         → (Beside (getD z s 0) (getD x s 0) (getD y s 0) → nested (getD z s 0) (getD c s 0) ≡ true) → permitted ds s z c ≡ false
-    both-passed c hx hy f = go (barred ds s z x nx) (barred ds s z y ny)
+    both-passed c u f = not-permitted ds s z c (go (barred ds s z x nx) (barred ds s z y ny))
       where
-        go : Barred ds s z x → Barred ds s z y → permitted ds s z c ≡ false
-        go (inr e) q = not-permitted ds s z c (inr (clash-held vz hx e))
-        go (inl p) (inr e) = not-permitted ds s z c (inr (clash-held vz hy e))
-        go (inl p) (inl q) = not-permitted ds s z c (inl (f (beside (getD ds s 0) _ _ _ (below-full vx) (below-full vy) crossing p q)))
+        clash : clashing ds (others s z) (others s (joined x y)) ≡ true → Barred ds s z c
+        clash e = inr (ap (clashing ds (others s z)) u ∙ e)
+
+        go : Barred ds s z x → Barred ds s z y → Barred ds s z c
+        go (inr e) q = clash (clash-passed (union-holds-first a b) e)
+        go (inl p) (inr e) = clash (clash-passed (union-holds-second a b) e)
+        go (inl p) (inl q) = inl (f (beside (getD ds s 0) _ _ _ (below-full vx) (below-full vy) crossing p q))
 
     conclusions-passed : Each (λ c. permitted ds s z c ≡ false) (conclusions ds s x y)
     unfolding conclusions
     conclusions-passed =
-        let a : Bounded ds x = bounded-valid vx in
-        let b : Bounded ds y = bounded-valid vy in
         let d = getD ds s 0 in
-        consEach (both-passed (metAt s x y) (meet-holds-first s a b) (meet-holds-second s a b)
-        (λ p. rw (metAt-at s vx vy l) (meet-nested d _ _ _ (below-full vz) (below-full vx) (below-full vy) p)))
-        (consEach (both-passed (joined x y) (union-holds-first s a b) (union-holds-second s a b)
+        consEach (both-passed (met s x y) (set-set (joined x y) s _ 0)
+        (λ p. rw (met-at s vx vy l) (meet-nested d _ _ _ (below-full vz) (below-full vx) (below-full vy) p)))
+        (consEach (both-passed (joined x y) refl
         (λ p. rw (joined-at s vx vy l) (union-nested d _ _ _ (below-full vz) (below-full vx) (below-full vy) p)))
-        (each-append (group-passed a b nx) (group-passed b a ny)))
+        (each-append
+        (held x (barred ds s z x nx) (excluding-at s vx vy l) (excluding-holds a (others-bounded s b)))
+        (held y (barred ds s z y ny) (excluding-at s vy vx l) (excluding-holds b (others-bounded s a)))))
 
 -- ---- over a step
 
@@ -308,7 +294,7 @@ module _ (ds : List ℕ) (s : ℕ) (z : List ℕ) where
       go true m = absurd (false≢true (sym e ∙ goes-candidate ds s z x (record { firstIn = p; secondIn = q; may = m })))
       go false m = refl
 
-pub alone-step : {ds : List ℕ} {rs : List Row} {pr : Pair} {z : List ℕ} → ValidClause ds z → ValidRows ds rs → Candidate ds rs pr
+pub alone-step : {ds : List ℕ} {rs : List Row} {pr : Pair} {z : List ℕ} → ValidClause ds z → ValidRows ds rs → CandidatePair ds rs pr
     → Alone ds (pr .variable) z rs → Alone ds (pr .variable) z (resolve ds pr rs)
 unfolding conclusionsOf
 alone-step {ds} {rs} {pr} {z} vz v c a =

@@ -10,15 +10,15 @@ use mathlib.Core.List.{List, [], _∷_}
 use lib.ListN.{length, getD}
 use Rattle.wcsp.specs.Clause.{InRange, ValidClause, falsifies, tautology}
 use Rattle.wcsp.specs.Row.{Row, ValidRows}
-use Rattle.wcsp.specs.Rule.{metAt, excluding, conclusions}
+use Rattle.wcsp.specs.Rule.{others, excluding, conclusions}
 use Rattle.wcsp.specs.Resolve.{Pair, noRow, movedWeight, resolve}
 use Rattle.wcsp.specs.Bound.{total, assignments, grade, graded, potential}
-use Rattle.wcsp.specs.Theorems.{falsifiedCount, Candidate, PotentialFalls}
+use Rattle.wcsp.specs.Theorems.{falsifiedCount, CandidatePair, PotentialFalls}
 use Rattle.wcsp.proofs.Linear.{weighted, linear}
 use Rattle.wcsp.proofs.Falsified.{tautology-satisfied}
-use Rattle.wcsp.proofs.Validity.{Each, nilEach, consEach, valid-signs, moved-positive}
+use Rattle.wcsp.proofs.Validity.{Each, nilEach, consEach, met, others-valid, valid-signs, moved-positive}
 use Rattle.wcsp.proofs.NextPair.{nextIsLeast}
-use Rattle.wcsp.proofs.Soundness.{once, elsewhere, falsifies-joined, falsifies-metAt, falsifies-elsewhere, count-excluding}
+use Rattle.wcsp.proofs.Soundness.{once, falsifies-joined, falsifies-met, falsifies-others, count-excluding}
 use Rattle.wcsp.proofs.Weights.{FalsifiedBy, falsifiable}
 use Rattle.wcsp.proofs.Resolvable.{Resolvable, resolvable, met-valid, Lower, lower, kept}
 use Rattle.wcsp.proofs.Assignments.{total-append, total-plus, assignments-le, assignments-at}
@@ -52,7 +52,7 @@ worth-each ds p g (consEach {c = c} {cs = cs} e es) = go (falsifies p c) (worth-
     go true ih = omega arith
     go false ih = omega arith
 
--- one step at one assignment, as Booleans: f, g say that it falsifies x, y, and m, n that it does elsewhere
+-- one step at one assignment, as Booleans: f, g say that it falsifies x, y, and m, n that it does so without the signs at s
 falls-law : (f g m n : Bool) {x y meet union : ℕ} → f ≡ (f && m) → g ≡ (g && n) → Lower x y meet union
     → cond ((f || g) && (m && n)) meet 0 + (cond (f && g) union 0 + (once (f && not n) * x + once (g && not m) * y))
     + once ((f || g) && (m && n))
@@ -69,31 +69,32 @@ falls-law false true m false h k l = absurd (false≢true (sym k))
 falls-law false false m n h k l = omega arith
 
 pub worth-falls : {s : ℕ} {ds x y p : List ℕ} → ValidClause ds x → ValidClause ds y → InRange ds p → Resolvable ds s x y
-    → total (worth ds p) (conclusions ds s x y) + once (falsifies p (metAt s x y)) ≤ worth ds p x + worth ds p y
+    → total (worth ds p) (conclusions ds s x y) + once (falsifies p (met s x y)) ≤ worth ds p x + worth ds p y
 unfolding conclusions total worth
 worth-falls {s} {ds} {x} {y} {p} a b c r =
     let (ex, ey) = kept r in
     rw (
-      total-append (worth ds p) (excluding ds s x y) (excluding ds s y x),
+      total-append (worth ds p) (excluding ds x (others s y)) (excluding ds y (others s x)),
       worth-each ds p (grade ds x) ex,
       worth-each ds p (grade ds y) ey,
-      count-excluding s a b c,
-      count-excluding s b a c,
-      falsifies-metAt s a b c,
+      count-excluding a (others-valid s b) c,
+      count-excluding b (others-valid s a) c,
+      falsifies-met s a b c,
       falsifies-joined a b c,
     )
-    (falls-law (falsifies p x) (falsifies p y) (elsewhere s p x) (elsewhere s p y) (falsifies-elsewhere s a c) (falsifies-elsewhere s b c) (lower r))
+    (falls-law (falsifies p x) (falsifies p y) (falsifies p (others s x)) (falsifies p (others s y))
+    (falsifies-others s a c) (falsifies-others s b c) (lower r))
 
 -- a step on any candidate; potentialFalls is that of the least one
-pub candidateFalls : (ds : List ℕ) (rs : List Row) (pr : Pair) → ValidRows ds rs → Candidate ds rs pr
+pub candidateFalls : (ds : List ℕ) (rs : List Row) (pr : Pair) → ValidRows ds rs → CandidatePair ds rs pr
     → potential ds (resolve ds pr rs) < potential ds rs
 unfolding potential
 candidateFalls ds rs pr v c =
     omega (
       arith,
-      assignments-le ds (λ p. graded ds p (resolve ds pr rs) + u * once (falsifies p met)) (λ p. graded ds p rs) at-one,
-      total-plus (λ p. graded ds p (resolve ds pr rs)) (λ p. u * once (falsifies p met)) (assignments ds),
-      assignments-at (λ p. u * once (falsifies p met)) (witness .inRange),
+      assignments-le ds (λ p. graded ds p (resolve ds pr rs) + u * once (falsifies p meet)) (λ p. graded ds p rs) at-one,
+      total-plus (λ p. graded ds p (resolve ds pr rs)) (λ p. u * once (falsifies p meet)) (assignments ds),
+      assignments-at (λ p. u * once (falsifies p meet)) (witness .inRange),
       ap (λ b. u * once b) (witness .falsifying),
       moved-positive pr v in-first (c .pair .inTable),
     )
@@ -110,8 +111,8 @@ candidateFalls ds rs pr v c =
     u : ℕ
     u = movedWeight pr rs
 
-    met : List ℕ
-    met = metAt (pr .variable) x y
+    meet : List ℕ
+    meet = met (pr .variable) x y
 
     valid-x : ValidClause ds x
     valid-x = valid-signs (pr .first) v in-first
@@ -122,10 +123,10 @@ candidateFalls ds rs pr v c =
     both : Resolvable ds (pr .variable) x y
     both = resolvable (pr .variable) valid-x valid-y (c .pair .known) (c .firstIn) (c .secondIn) (c .pair .may)
 
-    witness : FalsifiedBy ds met
+    witness : FalsifiedBy ds meet
     witness = falsifiable (met-valid both)
 
-    at-one : (p : List ℕ) → InRange ds p → graded ds p (resolve ds pr rs) + u * once (falsifies p met) ≤ graded ds p rs
+    at-one : (p : List ℕ) → InRange ds p → graded ds p (resolve ds pr rs) + u * once (falsifies p meet) ≤ graded ds p rs
     at-one p r =
         omega (
           arith,

@@ -16,7 +16,7 @@ use borrow.Author.Tests.{eqb-true, eq-eqb}
 use Rattle.wcsp.specs.Sign.{has, full, within}
 use Rattle.wcsp.specs.Clause.{InRange, AllPositive, nilPositive, consPositive, falsifies, bucket}
 use Rattle.wcsp.specs.Row.{Row, ValidRows}
-use Rattle.wcsp.specs.Rule.{nested, clashing, permitted}
+use Rattle.wcsp.specs.Rule.{others, nested, clashing, permitted}
 use Rattle.wcsp.specs.Resolve.{nextPair}
 use Rattle.wcsp.specs.Rebuild.{counts, narrowed, rebuiltValue}
 use Rattle.wcsp.proofs.Signs.{has-and, has-full, sign-ext, and-le-full, lowest-has}
@@ -184,7 +184,7 @@ module _ (ds : List ℕ) (rs : List Row) (valid : ValidRows ds rs) (k : ℕ) (q 
       two : (bucket (signsAt rs j) ≡ k) × (falsifies q (drop (suc k) (signsAt rs j)) ≡ true)
       two = counted k q (signsAt rs j) f
 
-      free : clashing ds k (signsAt rs i) (signsAt rs j) ≡ false
+      free : clashing ds (others k (signsAt rs i)) (others k (signsAt rs j)) ≡ false
       free = let b = one .0 in no-clash k ds q (signsAt rs i) (signsAt rs j) above (omega arith) (one .1) (two .1)
 
       go : (b : Bool) → nested (signAt k rs i) (signAt k rs j) ≡ b → b ≡ true

@@ -4,21 +4,21 @@
 use Prim.Native.Nat.{ℕ, zero, suc, _+_, _<_}
 use mathlib.Core.Path.{_≡_, sym, _∙_}
 use mathlib.Core.Bool.{true, false, not}
-use mathlib.Core.List.{List, [], _∷_, map}
+use mathlib.Core.List.{List, [], _∷_}
 use native.Mathlib.Omega.{arith}
 use lib.ListN.{length}
-use lib.Bits.{bitAnd, bitOr, and-le-l, and-comm}
+use lib.Bits.{bitAnd, bitOr, and-le-l, and-comm, or-zero-r}
 use lib.Count.{ones}
 use borrow.Author.Tests.{not-true}
 use Rattle.wcsp.specs.Sign.{full, present}
 use Rattle.wcsp.specs.Clause.{ValidClause, nil, cons, bucket}
-use Rattle.wcsp.specs.Rule.{joined, metAt, excluding, clashing, nested, permitted}
+use Rattle.wcsp.specs.Rule.{joined, others, excluding, clashing, nested, permitted}
 use Rattle.wcsp.specs.Bound.{grade}
 use Rattle.wcsp.proofs.Signs.{or-le-full}
 use Rattle.wcsp.proofs.Lists.{and-left, and-right, or-left, or-right}
 use Rattle.wcsp.proofs.Buckets.{bucket-absent, bucket-above}
 use Rattle.wcsp.proofs.Distinctness.{different, clashAt, union-below}
-use Rattle.wcsp.proofs.Validity.{Each, nilEach, consEach, each-map}
+use Rattle.wcsp.proofs.Validity.{Each, each-map, each-prefixed, met}
 use Rattle.wcsp.proofs.Grades.{gain-less, gain-concave, ones-or-and, ones-meet-less, ones-below, grade-present, grade-cons-le, grade-le}
 
 pub data Resolvable : List ℕ → ℕ → List ℕ → List ℕ → Type 0 where
@@ -26,7 +26,7 @@ pub data Resolvable : List ℕ → ℕ → List ℕ → List ℕ → Type 0 wher
       → Resolvable (d ∷ ds) zero (S ∷ x) (T ∷ y)
   later : {d s : ℕ} {ds x y : List ℕ} → 0 < full d → Resolvable ds s x y → Resolvable (d ∷ ds) (suc s) (zero ∷ x) (zero ∷ y)
 
-pub joined-valid : {ds x y : List ℕ} → ValidClause ds x → ValidClause ds y → clashing ds (length ds) x y ≡ false → ValidClause ds (joined x y)
+pub joined-valid : {ds x y : List ℕ} → ValidClause ds x → ValidClause ds y → clashing ds x y ≡ false → ValidClause ds (joined x y)
 unfolding clashing joined
 joined-valid nil nil e = nil
 joined-valid (cons {a = d} {b = S} h v) (cons {b = T} k w) e =
@@ -39,12 +39,12 @@ absent-first S s c e =
     (z, omega (arith, bucket-absent c))
 
 permitted-later : (d S T s : ℕ) (ds x y : List ℕ) → S ≡ 0 → permitted (d ∷ ds) (suc s) (S ∷ x) (T ∷ y) ≡ true → permitted ds s x y ≡ true
-unfolding permitted present
+unfolding permitted clashing present
 permitted-later d S T s ds x y e h = rw e at h
 
 pub resolvable : (s : ℕ) {ds x y : List ℕ} → ValidClause ds x → ValidClause ds y → s < length ds → bucket x ≡ s → bucket y ≡ s
     → permitted ds s x y ≡ true → Resolvable ds s x y
-unfolding permitted
+unfolding permitted clashing present
 resolvable s nil nil l bx by e = absurd (omega arith)
 resolvable zero (cons {b = S} h v) (cons {b = T} k w) l bx by e =
     let apart = different S T (not-true _ (and-left _ _ e)) in
@@ -58,8 +58,8 @@ resolvable (suc s) (cons {a = d} {b = S} {xs = ds} {ys = x} h v) (cons {b = T} {
     rw (ax .0, ay .0) (later l r)
 
 -- the first conclusion, which meets at s, is a valid clause
-pub met-valid : {s : ℕ} {ds x y : List ℕ} → Resolvable ds s x y → ValidClause ds (metAt s x y)
-unfolding metAt
+pub met-valid : {s : ℕ} {ds x y : List ℕ} → Resolvable ds s x y → ValidClause ds (met s x y)
+unfolding joined
 met-valid (here {d = d} {S = S} {T = T} h k m n v) = let l : bitAnd S T < full d = omega (arith, and-le-l S T) in cons l v
 met-valid (later h r) = cons h (met-valid r)
 
@@ -72,8 +72,8 @@ pub record Lower (x y meet union : ℕ) : Type 0 where
 nonzero : (S T : ℕ) → (bitAnd S T ≡ S → ⊥) → S ≡ 0 → ⊥
 nonzero S T h e = h (rw e)
 
-pub lower : {s : ℕ} {ds x y : List ℕ} → Resolvable ds s x y → Lower (grade ds x) (grade ds y) (grade ds (metAt s x y)) (grade ds (joined x y))
-unfolding metAt joined grade
+pub lower : {s : ℕ} {ds x y : List ℕ} → Resolvable ds s x y → Lower (grade ds x) (grade ds y) (grade ds (met s x y)) (grade ds (joined x y))
+unfolding joined grade
 lower (here {d = d} {S = S} {T = T} {ds = ds} {x = x} {y = y} h k m n v) =
     let gx = grade-present d S ds x (nonzero S T m) in
     let gy = grade-present d T ds y (nonzero T S (λ e. n (and-comm S T ∙ e))) in
@@ -90,18 +90,14 @@ lower (here {d = d} {S = S} {T = T} {ds = ds} {x = x} {y = y} h k m n v) =
     record { first = omega arith; second = omega arith; both = omega arith }
 lower (later h r) = lower r
 
-each-prefixed : {P : List ℕ → Type 0} (S : ℕ) → ((c : List ℕ) → P (S ∷ c)) → (cs : List (List ℕ)) → Each P (map (λ c. S ∷ c) cs)
-each-prefixed S f [] = nilEach
-each-prefixed S f (c ∷ cs) = consEach (f c) (each-prefixed S f cs)
-
 -- a clause of group 3 or 4 has its premise's sign at the bucket's variable, and so its grade
 pub kept : {s : ℕ} {ds x y : List ℕ} → Resolvable ds s x y
-    → Each (λ c. grade ds c ≡ grade ds x) (excluding ds s x y) × Each (λ c. grade ds c ≡ grade ds y) (excluding ds s y x)
+    → Each (λ c. grade ds c ≡ grade ds x) (excluding ds x (others s y)) × Each (λ c. grade ds c ≡ grade ds y) (excluding ds y (others s x))
 unfolding excluding present grade
 kept (here {d = d} {S = S} {T = T} {ds = ds} {x = x} {y = y} h k m n v) =
     let t = nonzero T S (λ e. n (and-comm S T ∙ e)) in (
-      each-prefixed S (λ c. same-grade S x c (nonzero S T m)) (excluding ds (length ds) x y),
-      each-prefixed T (λ c. same-grade T y c t) (excluding ds (length ds) y x),
+      each-prefixed (bitOr S 0) (λ c. rw (or-zero-r S) (same-grade S x c (nonzero S T m))) (excluding ds x y),
+      each-prefixed (bitOr T 0) (λ c. rw (or-zero-r T) (same-grade T y c t)) (excluding ds y x),
     )
   where
     same-grade : (U : ℕ) (z c : List ℕ) → (U ≡ 0 → ⊥) → grade (d ∷ ds) (U ∷ c) ≡ grade (d ∷ ds) (U ∷ z)

@@ -6,15 +6,15 @@ use mathlib.Core.Path.{_≡_, refl, ap, _∙_}
 use mathlib.Core.Bool.{Bool, true, false, cond}
 use mathlib.Core.List.{List, [], _∷_, _++_}
 use mathlib.Core.Option.{none, some}
-use lib.ListN.{length}
+use lib.ListN.{length, set}
 use lib.Bits.{bitOr}
 use lib.Dec.{eqb}
 use Rattle.wcsp.specs.Sign.{present}
 use Rattle.wcsp.specs.Clause.{bucket}
 use Rattle.wcsp.specs.Row.{Row, ValidRows}
-use Rattle.wcsp.specs.Rule.{joined, metAt, excluding, conclusions}
+use Rattle.wcsp.specs.Rule.{joined, excluding, conclusions}
 use Rattle.wcsp.specs.Resolve.{Pair, candidate, pairIn, pairFrom, nextPair, lessen, movedWeight, conclusionsOf, resolve}
-use Rattle.wcsp.specs.Theorems.{Candidate}
+use Rattle.wcsp.specs.Theorems.{CandidatePair}
 use Rattle.wcsp.proofs.Buckets.{bucket-absent, bucket-above}
 use Rattle.wcsp.proofs.Validity.{Each, nilEach, consEach, each-append, each-map}
 use Rattle.wcsp.proofs.PairSearch.{signsAt, NoPairIn, pairIn-none, pairFrom-here, pairFrom-later}
@@ -142,23 +142,19 @@ joined-bucket (suc s) (S ∷ x) (T ∷ y) h k =
     let (f, m) = bucket-above s T y k in
     absent-more s S T (joined x y) e f (joined-bucket s x y l m)
 
-met-bucket : (s : ℕ) (x y : List ℕ) → s ≤ bucket x → s ≤ bucket y → s ≤ bucket (metAt s x y)
-unfolding metAt
-met-bucket zero x y h k = omega arith
-met-bucket (suc s) [] y h k = h
-met-bucket (suc s) (S ∷ x) [] h k = k
-met-bucket (suc s) (S ∷ x) (T ∷ y) h k =
-    let (e, l) = bucket-above s S x h in
-    let (f, m) = bucket-above s T y k in
-    absent-more s S T (metAt s x y) e f (met-bucket s x y l m)
+-- the sign at s is not below it
+set-bucket : (s U : ℕ) (c : List ℕ) → s ≤ bucket c → s ≤ bucket (set c s U)
+set-bucket zero U c h = omega arith
+set-bucket (suc s) U [] h = h
+set-bucket (suc s) U (S ∷ c) h = let (e, l) = bucket-above s S c h in rw e (omega (arith, bucket-absent (set c s U), set-bucket s U c l))
 
 each-any : (cs : List (List ℕ)) → Each (λ c. 0 ≤ bucket c) cs
 each-any [] = nilEach
 each-any (c ∷ cs) = let l : 0 ≤ bucket c = omega arith in consEach l (each-any cs)
 
-excluding-bucket : (s : ℕ) (ds x y : List ℕ) → s ≤ bucket x → s ≤ bucket y → Each (λ c. s ≤ bucket c) (excluding ds s x y)
+excluding-bucket : (s : ℕ) (ds x y : List ℕ) → s ≤ bucket x → s ≤ bucket y → Each (λ c. s ≤ bucket c) (excluding ds x y)
 unfolding excluding present
-excluding-bucket zero ds x y h k = each-any (excluding ds 0 x y)
+excluding-bucket zero ds x y h k = each-any (excluding ds x y)
 excluding-bucket (suc s) [] x y h k = nilEach
 excluding-bucket (suc s) (d ∷ ds) [] y h k = nilEach
 excluding-bucket (suc s) (d ∷ ds) (S ∷ x) [] h k = nilEach
@@ -170,11 +166,12 @@ excluding-bucket (suc s) (d ∷ ds) (S ∷ x) (T ∷ y) h k =
 pub conclusions-bucket : (s : ℕ) (ds x y : List ℕ) → s ≤ bucket x → s ≤ bucket y → Each (λ c. s ≤ bucket c) (conclusions ds s x y)
 unfolding conclusions
 conclusions-bucket s ds x y h k =
-    consEach (met-bucket s x y h k) (consEach (joined-bucket s x y h k) (each-append (excluding-bucket s ds x y h k) (excluding-bucket s ds y x k h)))
+    consEach (set-bucket s _ (joined x y) (joined-bucket s x y h k)) (consEach (joined-bucket s x y h k)
+    (each-append (excluding-bucket s ds x _ h (set-bucket s 0 y k)) (excluding-bucket s ds y _ k (set-bucket s 0 x h))))
 
 -- ---- over a step
 
-pub settled-kept : {ds : List ℕ} {rs : List Row} {pr : Pair} → ValidRows ds rs → Candidate ds rs pr → (t : ℕ) → t < pr .variable
+pub settled-kept : {ds : List ℕ} {rs : List Row} {pr : Pair} → ValidRows ds rs → CandidatePair ds rs pr → (t : ℕ) → t < pr .variable
     → pairIn ds t 0 rs ≡ none → pairIn ds t 0 (resolve ds pr rs) ≡ none
 unfolding conclusionsOf
 settled-kept {ds} {rs} {pr} v c t h e = pairIn-is-none ds t 0 (resolve ds pr rs) (quiet-at ds t {rs = resolve ds pr rs} (rw (resolve-as-written v (c .pair)) after))

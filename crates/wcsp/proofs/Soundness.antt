@@ -1,28 +1,20 @@
 -- The rule is sound at every variable: an assignment falsifies as many conclusions as premises.
 -- By induction along the variables each conclusion's test becomes one of Booleans; the conclusions of `excluding` count one in all,
--- exactly if the assignment falsifies x and, at some variable other than s, has a value in y.
+-- exactly if the assignment falsifies x and not y.
 use Prim.Native.Nat.{ℕ, zero, suc, _+_, _<_}
 use native.Mathlib.Omega.{arith}
-use mathlib.Core.Path.{_≡_, refl, sym, ap, ap₂, _∙_}
+use mathlib.Core.Path.{_≡_, refl, sym, ap₂, _∙_}
 use mathlib.Core.Bool.{Bool, true, false, not, _&&_, _||_, cond, false≢true}
 use mathlib.Core.List.{List, [], _∷_, _++_, map}
-use lib.ListN.{length}
 use lib.Bits.{bitOr}
 use lib.Dec.{eqb}
 use borrow.Author.Tests.{eqb-true}
 use Rattle.wcsp.specs.Sign.{has, full, complement, present}
 use Rattle.wcsp.specs.Clause.{Along, nil, cons, InRange, ValidClause, falsifies}
-use Rattle.wcsp.specs.Rule.{joined, metAt, excluding, conclusions}
+use Rattle.wcsp.specs.Rule.{joined, others, excluding, conclusions}
 use Rattle.wcsp.specs.Theorems.{falsifiedCount, Soundness}
 use Rattle.wcsp.proofs.Signs.{has-zero, has-or, has-and, has-complement}
-
--- the assignment's value lies outside the sign at every variable but s
-unfoldable pub elsewhere : ℕ → List ℕ → List ℕ → Bool
-unfolding falsifies
-elsewhere s [] c = true
-elsewhere s (v ∷ p) [] = true
-elsewhere zero (v ∷ p) (S ∷ c) = falsifies p c
-elsewhere (suc s) (v ∷ p) (S ∷ c) = not (has S v) && elsewhere s p c
+use Rattle.wcsp.proofs.Validity.{met, others-valid}
 
 -- 1 where the test passes, else 0
 abbrev pub once : Bool → ℕ
@@ -71,10 +63,6 @@ literal-law false false true true = refl
 literal-law false false true false = refl
 literal-law false false false e = refl
 
-passed-law : (a f g : Bool) → cond (not a) (once (f && not g)) 0 ≡ once ((not a && f) && not g)
-passed-law true f g = refl
-passed-law false f g = refl
-
 total-law : (f g m n : Bool) → f ≡ (f && m) → g ≡ (g && n)
     → once ((f || g) && (m && n)) + (once (f && g) + (once (f && not n) + once (g && not m))) ≡ once f + (once g + 0)
 total-law true true true true h k = refl
@@ -98,32 +86,27 @@ module _ {R Q P : ℕ → ℕ → Type 0} where
   falsifies-joined (cons {b = S} r a) (cons {b = T} q b) (cons {b = v} h c) =
       rw (has-or S T v, falsifies-joined a b c) (join-law (has S v) (has T v) _ _)
 
-  pub falsifies-metAt : (s : ℕ) {ds x y p : List ℕ} → Along R ds x → Along Q ds y → Along P ds p
-      → falsifies p (metAt s x y) ≡ ((falsifies p x || falsifies p y) && (elsewhere s p x && elsewhere s p y))
-  unfolding falsifies metAt elsewhere
-  falsifies-metAt s nil nil nil = refl
-  falsifies-metAt zero (cons {b = S} r a) (cons {b = T} q b) (cons {b = v} h c) =
-      rw (has-and S T v, falsifies-joined a b c) (meet-law (has S v) (has T v) _ _)
-  falsifies-metAt (suc s) (cons {b = S} r a) (cons {b = T} q b) (cons {b = v} h c) =
-      rw (has-or S T v, falsifies-metAt s a b c) (join-more (has S v) (has T v) _ _ _ _)
+  pub falsifies-met : (s : ℕ) {ds x y p : List ℕ} → Along R ds x → Along Q ds y → Along P ds p
+      → falsifies p (met s x y) ≡ ((falsifies p x || falsifies p y) && (falsifies p (others s x) && falsifies p (others s y)))
+  unfolding falsifies joined
+  falsifies-met s nil nil nil = refl
+  falsifies-met zero (cons {b = S} r a) (cons {b = T} q b) (cons {b = v} h c) =
+      rw (has-and S T v, has-zero v, falsifies-joined a b c) (meet-law (has S v) (has T v) _ _)
+  falsifies-met (suc s) (cons {b = S} r a) (cons {b = T} q b) (cons {b = v} h c) =
+      rw (has-or S T v, falsifies-met s a b c) (join-more (has S v) (has T v) _ _ _ _)
 
-module _ {R P : ℕ → ℕ → Type 0} where
-  -- "no such variable"
-  pub elsewhere-all : {ds x p : List ℕ} → Along R ds x → Along P ds p → elsewhere (length ds) p x ≡ falsifies p x
-  unfolding falsifies elsewhere
-  elsewhere-all nil nil = refl
-  elsewhere-all (cons {b = S} r a) (cons {b = v} h c) = ap (λ e. not (has S v) && e) (elsewhere-all a c)
-
-  pub falsifies-elsewhere : (s : ℕ) {ds x p : List ℕ} → Along R ds x → Along P ds p → falsifies p x ≡ (falsifies p x && elsewhere s p x)
-  unfolding falsifies elsewhere
-  falsifies-elsewhere s nil nil = refl
-  falsifies-elsewhere zero (cons {b = S} {ys = x} r a) (cons {b = v} {ys = p} h c) = idem (not (has S v)) (falsifies p x)
-    where
-      idem : (a f : Bool) → (a && f) ≡ ((a && f) && f)
-      idem true true = refl
-      idem true false = refl
-      idem false f = refl
-  falsifies-elsewhere (suc s) (cons {b = S} r a) (cons {b = v} h c) = keep-law (has S v) _ _ (falsifies-elsewhere s a c)
+-- what is falsified is so without a literal
+pub falsifies-others : {R P : ℕ → ℕ → Type 0} (s : ℕ) {ds x p : List ℕ} → Along R ds x → Along P ds p
+    → falsifies p x ≡ (falsifies p x && falsifies p (others s x))
+unfolding falsifies
+falsifies-others s nil nil = refl
+falsifies-others zero (cons {b = S} {ys = x} r a) (cons {b = v} {ys = p} h c) = rw (has-zero v) (idem (not (has S v)) (falsifies p x))
+  where
+    idem : (a f : Bool) → (a && f) ≡ ((a && f) && f)
+    idem true true = refl
+    idem true false = refl
+    idem false f = refl
+falsifies-others (suc s) (cons {b = S} r a) (cons {b = v} h c) = keep-law (has S v) _ _ (falsifies-others s a c)
 
 -- ---- counting
 
@@ -161,28 +144,25 @@ literal d S T v x p ht hv = go (eqb T 0) refl
     go true e = rw (eqb-true T 0 e, has-zero v) (absent (has S v) (falsifies p x))
     go false e = rw (has-or S (complement d T) v, has-complement d T v (omega arith) hv) (omega arith)
 
-pub count-excluding : (s : ℕ) {ds x y p : List ℕ} → ValidClause ds x → ValidClause ds y → InRange ds p
-    → falsifiedCount p (excluding ds s x y) ≡ once (falsifies p x && not (elsewhere s p y))
-unfolding excluding falsifies elsewhere falsifiedCount
-count-excluding s nil nil nil = refl
-count-excluding zero (cons {a = d} {b = S} {xs = ds} {ys = x} r a) (cons {b = T} {ys = y} q b) (cons {b = v} {ys = p} h c) =
-    count-prefixed v S p (excluding ds (length ds) x y)
-    ∙ ap (λ n. cond (not (has S v)) n 0) (count-excluding (length ds) a b c)
-    ∙ rw (elsewhere-all b c) (passed-law (has S v) (falsifies p x) (falsifies p y))
-count-excluding (suc s) (cons {a = d} {b = S} {xs = ds} {ys = x} r a) (cons {b = T} {ys = y} q b) (cons {b = v} {ys = p} h c) =
-    count-append (v ∷ p) (cond (present T) ((bitOr S (complement d T) ∷ x) ∷ []) []) (map (λ c. bitOr S T ∷ c) (excluding ds s x y))
+pub count-excluding : {ds x y p : List ℕ} → ValidClause ds x → ValidClause ds y → InRange ds p
+    → falsifiedCount p (excluding ds x y) ≡ once (falsifies p x && not (falsifies p y))
+unfolding excluding falsifies falsifiedCount
+count-excluding nil nil nil = refl
+count-excluding (cons {a = d} {b = S} {xs = ds} {ys = x} r a) (cons {b = T} {ys = y} q b) (cons {b = v} {ys = p} h c) =
+    count-append (v ∷ p) (cond (present T) ((bitOr S (complement d T) ∷ x) ∷ []) []) (map (λ c. bitOr S T ∷ c) (excluding ds x y))
     ∙ ap₂ (λ m n. m + n) (literal d S T v x p q h)
-    (count-prefixed v (bitOr S T) p (excluding ds s x y) ∙ rw (has-or S T v, count-excluding s a b c) refl)
-    ∙ literal-law (has S v) (has T v) (falsifies p x) (elsewhere s p y)
+    (count-prefixed v (bitOr S T) p (excluding ds x y) ∙ rw (has-or S T v, count-excluding a b c) refl)
+    ∙ literal-law (has S v) (has T v) (falsifies p x) (falsifies p y)
 
 pub soundness : Soundness
 unfolding conclusions falsifiedCount
 soundness ds s x y p a b c =
     rw (
-      count-append p (excluding ds s x y) (excluding ds s y x),
-      count-excluding s a b c,
-      count-excluding s b a c,
-      falsifies-metAt s a b c,
+      count-append p (excluding ds x (others s y)) (excluding ds y (others s x)),
+      count-excluding a (others-valid s b) c,
+      count-excluding b (others-valid s a) c,
+      falsifies-met s a b c,
       falsifies-joined a b c,
     )
-    (total-law (falsifies p x) (falsifies p y) (elsewhere s p x) (elsewhere s p y) (falsifies-elsewhere s a c) (falsifies-elsewhere s b c))
+    (total-law (falsifies p x) (falsifies p y) (falsifies p (others s x)) (falsifies p (others s y))
+    (falsifies-others s a c) (falsifies-others s b c))

@@ -10,7 +10,7 @@ use lib.Dec.{eqb, ltb}
 use borrow.Author.Tests.{ltb-false, le-ltb}
 use Rattle.wcsp.specs.Clause.{same}
 use Rattle.wcsp.specs.Row.{Row, weightOf, heavy, ValidRows}
-use Rattle.wcsp.specs.Resolve.{Pair, noRow, lessen, movedWeight, resolve, Permitted}
+use Rattle.wcsp.specs.Resolve.{Pair, noRow, lessen, movedWeight, resolve, MayResolve}
 use Rattle.wcsp.proofs.Lists.{same-refl, same-eq, or-left, or-right}
 use Rattle.wcsp.proofs.EmptyRow.{weightOf-same, weightOf-other, weightOf-absent}
 use Rattle.wcsp.proofs.Linear.{lessen-below}
@@ -116,7 +116,7 @@ moved-le : (pr : Pair) (rs : List Row) → movedWeight pr rs ≤ getD rs (pr .fi
 unfolding movedWeight
 moved-le pr rs = omega arith
 
-pub tooHeavy : {ds : List ℕ} (L : ℕ) {rs : List Row} {pr : Pair} → ValidRows ds rs → Permitted ds rs pr → heavy L rs ≡ false
+pub tooHeavy : {ds : List ℕ} (L : ℕ) {rs : List Row} {pr : Pair} → ValidRows ds rs → MayResolve ds rs pr → heavy L rs ≡ false
     → heavy L (resolve ds pr rs) ≡ heavyAny L (movedWeight pr rs) (keptOf ds pr rs) rs
 tooHeavy {ds} L {rs} {pr} v p e =
     let u = movedWeight pr rs in

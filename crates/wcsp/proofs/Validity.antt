@@ -5,18 +5,18 @@ use mathlib.Core.Path.{_≡_, refl, _∙_}
 use mathlib.Core.Bool.{Bool, true, false, _||_, cond, true≢false}
 use mathlib.Core.List.{List, [], _∷_, _++_, map}
 use native.Mathlib.Omega.{arith}
-use lib.ListN.{length, getD}
-use lib.Bits.{bitOr}
+use lib.ListN.{length, getD, set}
+use lib.Bits.{bitAnd, bitOr}
 use lib.Dec.{eqb}
 use borrow.Author.Tests.{eqb-false}
 use Rattle.wcsp.specs.Sign.{full, complement, present}
 use Rattle.wcsp.specs.Clause.{Along, nil, cons, ValidClause, same, tautology}
 use Rattle.wcsp.specs.Row.{Row, merge, add, addAll, Absent, nilAbsent, consAbsent, ValidRows, nilRows, consRows}
-use Rattle.wcsp.specs.Rule.{joined, metAt, excluding, conclusions}
+use Rattle.wcsp.specs.Rule.{joined, others, excluding, conclusions}
 use Rattle.wcsp.specs.Resolve.{Pair, noRow, lessen, movedWeight, resolve}
 use Rattle.wcsp.specs.Theorems.{StepValid}
 use Rattle.wcsp.proofs.Signs.{or-le-full, and-le-full, complement-le-full}
-use Rattle.wcsp.proofs.Lists.{same-sym, along-map}
+use Rattle.wcsp.proofs.Lists.{same-sym, along-map, along-others}
 
 -- a clause over these sizes: a full sign is allowed
 abbrev pub Bounded : List ℕ → List ℕ → Type 0
@@ -35,6 +35,10 @@ pub each-map : {P Q : List ℕ → Type 0} (f : List ℕ → List ℕ) {xs : Lis
 each-map f g nilEach = nilEach
 each-map f g (consEach {c = c} h s) = consEach (g c h) (each-map f g s)
 
+pub each-prefixed : {P : List ℕ → Type 0} (S : ℕ) → ((c : List ℕ) → P (S ∷ c)) → (cs : List (List ℕ)) → Each P (map (λ c. S ∷ c) cs)
+each-prefixed S f [] = nilEach
+each-prefixed S f (c ∷ cs) = consEach (f c) (each-prefixed S f cs)
+
 pub bounded-valid : {ds c : List ℕ} → ValidClause ds c → Bounded ds c
 bounded-valid v = along-map (λ d S h. omega arith) v
 
@@ -48,24 +52,32 @@ valid-bounded (cons {a = d} {b = S} {xs = ds} {ys = c} h t) e = go (eqb S (full 
     go true k e ih = absurd (true≢false e)
     go false k e ih = let l : S < full d = omega (arith, eqb-false S (full d) k) in cons l (ih e)
 
+-- the first conclusion: the signs met at s and joined elsewhere
+abbrev pub met : ℕ → List ℕ → List ℕ → List ℕ
+met s x y = set (joined x y) s (bitAnd (getD x s 0) (getD y s 0))
+
 pub joined-bounded : {ds x y : List ℕ} → Bounded ds x → Bounded ds y → Bounded ds (joined x y)
 unfolding joined
 joined-bounded nil nil = nil
 joined-bounded (cons {a = d} {b = S} h s) (cons {b = T} k t) = cons (or-le-full d S T h k) (joined-bounded s t)
 
-pub met-bounded : (s : ℕ) {ds x y : List ℕ} → Bounded ds x → Bounded ds y → Bounded ds (metAt s x y)
-unfolding metAt
+pub met-bounded : (s : ℕ) {ds x y : List ℕ} → Bounded ds x → Bounded ds y → Bounded ds (met s x y)
+unfolding joined
 met-bounded s nil nil = nil
 met-bounded zero (cons {a = d} {b = S} h s) (cons {b = T} k t) = cons (and-le-full d S T h k) (joined-bounded s t)
 met-bounded (suc i) (cons {a = d} {b = S} h s) (cons {b = T} k t) = cons (or-le-full d S T h k) (met-bounded i s t)
 
-pub excluding-bounded : (s : ℕ) {ds x y : List ℕ} → Bounded ds x → Bounded ds y → Each (Bounded ds) (excluding ds s x y)
+pub others-bounded : (s : ℕ) {ds x : List ℕ} → Bounded ds x → Bounded ds (others s x)
+others-bounded s b = along-others s (λ d S h. omega arith) b
+
+pub others-valid : (s : ℕ) {ds x : List ℕ} → ValidClause ds x → ValidClause ds (others s x)
+others-valid s v = along-others s (λ d S h. omega arith) v
+
+pub excluding-bounded : {ds x y : List ℕ} → Bounded ds x → Bounded ds y → Each (Bounded ds) (excluding ds x y)
 unfolding excluding
-excluding-bounded s nil nil = nilEach
-excluding-bounded zero (cons {a = d} {b = S} {xs = ds} h s) (cons {b = T} k t) =
-    each-map (λ c. S ∷ c) (λ c b. cons h b) (excluding-bounded (length ds) s t)
-excluding-bounded (suc i) (cons {a = d} {b = S} {xs = ds} {ys = x} h s) (cons {b = T} k t) =
-    each-append (one (present T)) (each-map (λ c. bitOr S T ∷ c) (λ c b. cons (or-le-full d S T h k) b) (excluding-bounded i s t))
+excluding-bounded nil nil = nilEach
+excluding-bounded (cons {a = d} {b = S} {xs = ds} {ys = x} h s) (cons {b = T} k t) =
+    each-append (one (present T)) (each-map (λ c. bitOr S T ∷ c) (λ c b. cons (or-le-full d S T h k) b) (excluding-bounded s t))
   where
     one : (b : Bool) → Each (Bounded (d ∷ ds)) (cond b ((bitOr S (complement d T) ∷ x) ∷ []) [])
     one true = consEach (cons (or-le-full d S (complement d T) h (complement-le-full d T)) s) nilEach
@@ -77,7 +89,7 @@ unfolding conclusions
 conclusions-bounded s {ds} {x} {y} v w =
     let a : Bounded ds x = bounded-valid v in
     let b : Bounded ds y = bounded-valid w in
-    consEach (met-bounded s a b) (consEach (joined-bounded a b) (each-append (excluding-bounded s a b) (excluding-bounded s b a)))
+    consEach (met-bounded s a b) (consEach (joined-bounded a b) (each-append (excluding-bounded a (others-bounded s b)) (excluding-bounded b (others-bounded s a))))
 
 absent-merge : {a : List ℕ} (u : ℕ) {rs : List Row} (c : List ℕ) → same c a ≡ false → Absent a rs → Absent a (merge u rs c)
 unfolding merge

@@ -1,34 +1,81 @@
--- Small cases worked by hand that each pin one part of the rule: without it a count, a weight or a row is another one.
+-- Small cases worked by hand that each pin one part of a definition: without it a count, a weight, a row or a pair is another one.
+-- They are computed from the definitions alone, so another spelling of the same definition leaves them as they are.
+use Prim.Native.Nat.{ℕ}
 use mathlib.Core.Path.{_≡_, refl}
-use mathlib.Core.List.{[], _∷_}
-use Rattle.wcsp.specs.Sign.{has, full, complement, present}
-use Rattle.wcsp.specs.Clause.{falsifies, same}
-use Rattle.wcsp.specs.Row.{falsified, merge}
-use Rattle.wcsp.specs.Rule.{joined, metAt, excluding, conclusions}
-use Rattle.wcsp.specs.Resolve.{lessen}
+use mathlib.Core.Bool.{false}
+use mathlib.Core.List.{List, [], _∷_}
+use mathlib.Core.Option.{some}
+use Rattle.wcsp.specs.Sign.{has, full, complement, within, present, lowest}
+use Rattle.wcsp.specs.Clause.{falsifies, same, bucket}
+use Rattle.wcsp.specs.Row.{Row, falsified, merge}
+use Rattle.wcsp.specs.Rule.{conclusions, permitted}
+use Rattle.wcsp.specs.Resolve.{Pair, nextPair, lessen, movedWeight}
+use Rattle.wcsp.specs.Rebuild.{rebuilt}
 use Rattle.wcsp.specs.Theorems.{falsifiedCount}
+
+row : List ℕ → ℕ → Row
+row c w = record { signs = c; weight = w }
+
+pair : ℕ → ℕ → ℕ → Pair
+pair s i j = record { variable = s; first = i; second = j }
+
+-- ---- the rule
+
+-- the complement is taken in the variable's own values
+complemented : complement 2 1 ≡ 2
+unfolding complement
+complemented = refl
 
 -- group 3: the first premise alone is falsified, and only the clause with its partner's other literal complemented takes it up
 group-3 : falsifiedCount (0 ∷ 1 ∷ []) (conclusions (2 ∷ 2 ∷ []) 0 (2 ∷ 0 ∷ []) (1 ∷ 2 ∷ [])) ≡ 1
-unfolding has full complement present falsifies falsifiedCount joined metAt excluding conclusions
+unfolding has full complement present falsifies falsifiedCount conclusions
 group-3 = refl
 
 -- group 4: the same with the premises exchanged
 group-4 : falsifiedCount (0 ∷ 1 ∷ []) (conclusions (2 ∷ 2 ∷ []) 0 (1 ∷ 2 ∷ []) (2 ∷ 0 ∷ [])) ≡ 1
-unfolding has full complement present falsifies falsifiedCount joined metAt excluding conclusions
+unfolding has full complement present falsifies falsifiedCount conclusions
 group-4 = refl
 
 -- the union: both premises are falsified, so two conclusions are
 union : falsifiedCount (2 ∷ []) (conclusions (3 ∷ []) 0 (1 ∷ []) (2 ∷ [])) ≡ 2
-unfolding has full complement present falsifies falsifiedCount joined metAt excluding conclusions
+unfolding has full complement present falsifies falsifiedCount conclusions
 union = refl
 
+-- a sign that contains the other
+nested-signs : permitted (3 ∷ []) 0 (3 ∷ []) (2 ∷ []) ≡ false
+unfolding full within present permitted
+nested-signs = refl
+
+-- ---- the step
+
 -- merging adds the weights
-merged : falsified (0 ∷ []) (merge 3 (record { signs = 2 ∷ []; weight = 4 } ∷ []) (2 ∷ [])) ≡ 7
-unfolding has falsifies falsified same merge
+merged : falsified (0 ∷ []) (merge 3 (row (2 ∷ []) 4 ∷ []) (2 ∷ [])) ≡ 7
+unfolding row has falsifies falsified same merge
 merged = refl
 
+-- the lesser weight is moved
+lesser : movedWeight (pair 0 0 1) (row (1 ∷ []) 4 ∷ row (2 ∷ []) 3 ∷ []) ≡ 3
+unfolding row pair movedWeight
+lesser = refl
+
 -- a row whose whole weight is taken is no row any more
-used-up : lessen 4 0 (record { signs = 2 ∷ []; weight = 4 } ∷ []) ≡ []
-unfolding lessen
+used-up : lessen 4 0 (row (2 ∷ []) 4 ∷ []) ≡ []
+unfolding row lessen
 used-up = refl
+
+-- of two second rows the lower
+second-row : nextPair (3 ∷ []) (row (1 ∷ []) 1 ∷ row (2 ∷ []) 1 ∷ row (4 ∷ []) 1 ∷ []) ≡ some (pair 0 0 1)
+unfolding row pair full within present bucket permitted nextPair
+second-row = refl
+
+-- of two variables the lower
+variable : nextPair (3 ∷ 3 ∷ []) (row (0 ∷ 1 ∷ []) 1 ∷ row (0 ∷ 2 ∷ []) 1 ∷ row (1 ∷ 0 ∷ []) 1 ∷ row (2 ∷ 0 ∷ []) 1 ∷ []) ≡ some (pair 0 2 3)
+unfolding row pair full within present bucket permitted nextPair
+variable = refl
+
+-- ---- the rebuilt assignment
+
+-- a row that a higher value satisfies narrows nothing
+satisfied : rebuilt (2 ∷ 2 ∷ []) (row (2 ∷ 1 ∷ []) 1 ∷ []) ≡ 0 ∷ 0 ∷ []
+unfolding row has full lowest falsifies bucket rebuilt
+satisfied = refl

@@ -8,3 +8,4 @@ pub mod Resolve
 pub mod Rebuild
 pub mod Bound
 pub mod Theorems
+pub mod Widening

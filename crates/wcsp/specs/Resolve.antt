@@ -77,7 +77,7 @@ resolve ds pr rs =
     let u = movedWeight pr rs in addAll ds u (lessen u (pr .first) (lessen u (pr .second) rs)) (conclusionsOf ds pr rs)
 
 -- a pair that the checker takes: rows in order, below the row count, permitted on its variable
-pub record Permitted (ds : List ℕ) (rs : List Row) (pr : Pair) : Type 0 where
+pub record MayResolve (ds : List ℕ) (rs : List Row) (pr : Pair) : Type 0 where
   pub ordered : pr .first < pr .second
   pub inTable : pr .second < length rs
   pub known : pr .variable < length ds
@@ -91,5 +91,5 @@ pub data Steps (ds : List ℕ) : List Row → ℕ → List Row → Type 0 where
 -- rs becomes rs′ by the listed pairs, each a permitted one
 pub data Replays (ds : List ℕ) : List Row → List Pair → List Row → Type 0 where
   stop : {rs : List Row} → Replays ds rs [] rs
-  step : {rs rs′ : List Row} {prs : List Pair} (pr : Pair) → Permitted ds rs pr → Replays ds (resolve ds pr rs) prs rs′
+  step : {rs rs′ : List Row} {prs : List Pair} (pr : Pair) → MayResolve ds rs pr → Replays ds (resolve ds pr rs) prs rs′
       → Replays ds rs (pr ∷ prs) rs′

@@ -10,7 +10,7 @@ use Rattle.wcsp.specs.Clause.{InRange, ValidClause, AllPositive, falsifi
 use Rattle.wcsp.specs.Row.{Row, falsified, emptyWeight, ValidRows}
 use Rattle.wcsp.specs.Entry.{Entry, WellFormed, cost, encoded, LeastCost}
 use Rattle.wcsp.specs.Rule.{conclusions, permitted}
-use Rattle.wcsp.specs.Resolve.{Pair, noRow, nextPair, resolve, Permitted, Steps, Replays}
+use Rattle.wcsp.specs.Resolve.{Pair, noRow, nextPair, resolve, MayResolve, Steps, Replays}
 use Rattle.wcsp.specs.Rebuild.{rebuilt, rebuiltOver}
 use Rattle.wcsp.specs.Bound.{potential, rowBound, stepBound}
 
@@ -26,12 +26,12 @@ Soundness = (ds : List ℕ) (s : ℕ) (x y p : List ℕ) → ValidClause ds x �
 
 -- a step on any permitted pair conserves the falsified weight of every assignment
 abbrev pub Conservation : Type 0
-Conservation = (ds : List ℕ) (rs : List Row) (pr : Pair) (p : List ℕ) → ValidRows ds rs → Permitted ds rs pr → InRange ds p
+Conservation = (ds : List ℕ) (rs : List Row) (pr : Pair) (p : List ℕ) → ValidRows ds rs → MayResolve ds rs pr → InRange ds p
     → falsified p (resolve ds pr rs) ≡ falsified p rs
 
 -- a step on any permitted pair keeps the rows valid
 abbrev pub StepValid : Type 0
-StepValid = (ds : List ℕ) (rs : List Row) (pr : Pair) → ValidRows ds rs → Permitted ds rs pr → ValidRows ds (resolve ds pr rs)
+StepValid = (ds : List ℕ) (rs : List Row) (pr : Pair) → ValidRows ds rs → MayResolve ds rs pr → ValidRows ds (resolve ds pr rs)
 
 -- any list of permitted pairs conserves the falsified weight and keeps the rows valid
 pub record Conserved (ds : List ℕ) (rs rs′ : List Row) : Type 0 where
@@ -63,8 +63,8 @@ DistinctConclusions = (ds : List ℕ) (s : ℕ) (x y : List ℕ) → ValidClause
     → permitted ds s x y ≡ true → Distinct (x ∷ y ∷ conclusions ds s x y)
 
 -- a pair among the rows of its variable's bucket that may be resolved on it
-pub record Candidate (ds : List ℕ) (rs : List Row) (pr : Pair) : Type 0 where
-  pub pair : Permitted ds rs pr
+pub record CandidatePair (ds : List ℕ) (rs : List Row) (pr : Pair) : Type 0 where
+  pub pair : MayResolve ds rs pr
   pub firstIn : bucket (getD rs (pr .first) noRow .signs) ≡ pr .variable
   pub secondIn : bucket (getD rs (pr .second) noRow .signs) ≡ pr .variable
 
@@ -73,18 +73,20 @@ abbrev pub NotAfter : Pair → Pair → Type 0
 NotAfter a b = (a .variable < b .variable) ⊎ ((a .variable ≡ b .variable) × ((a .first < b .first) ⊎ ((a .first ≡ b .first) × (a .second ≤ b .second))))
 
 pub record LeastCandidate (ds : List ℕ) (rs : List Row) (pr : Pair) : Type 0 where
-  pub is : Candidate ds rs pr
-  pub least : (other : Pair) → Candidate ds rs other → NotAfter pr other
+  pub is : CandidatePair ds rs pr
+  pub least : (other : Pair) → CandidatePair ds rs other → NotAfter pr other
 
 -- the next pair is the least candidate, and there is none exactly if there is no candidate
 abbrev pub NextIsLeast : Type 0
 NextIsLeast = (ds : List ℕ) (rs : List Row) (pr : Pair) → (nextPair ds rs ≡ some pr) ↔ LeastCandidate ds rs pr
 
 abbrev pub NoneLeft : Type 0
-NoneLeft = (ds : List ℕ) (rs : List Row) → (nextPair ds rs ≡ none) ↔ ((pr : Pair) → Candidate ds rs pr → ⊥)
+NoneLeft = (ds : List ℕ) (rs : List Row) → (nextPair ds rs ≡ none) ↔ ((pr : Pair) → CandidatePair ds rs pr → ⊥)
 
 -- every step on the next pair lowers the potential, so no sequence of steps is longer than a number computed from the rows,
--- and none from an encoding is longer than one computed from sizes and costs
+-- and none from an encoding is longer than one computed from sizes and costs.
+-- Proof idea: an assignment that falsified both premises now falsifies meet and union, of a lower grade together since the gain is concave;
+-- one that falsified one of them, a clause of its grade or the meet, of a lower one. And some assignment falsifies the meet.
 abbrev pub PotentialFalls : Type 0
 PotentialFalls = (ds : List ℕ) (rs : List Row) (pr : Pair) → ValidRows ds rs → nextPair ds rs ≡ some pr
     → potential ds (resolve ds pr rs) < potential ds rs
@@ -100,7 +102,7 @@ InstanceBounded = (ds : List ℕ) (es : List Entry) (rs′ : List Row) (k : ℕ)
 abbrev pub EmptyBelow : Type 0
 EmptyBelow = (ds : List ℕ) (rs : List Row) (p : List ℕ) → InRange ds p → emptyWeight (length ds) rs ≤ falsified p rs
 
--- some assignment falsifies at least the weight of row i
+-- some assignment falsifies at least the weight w
 pub record Witnessed (ds : List ℕ) (rs : List Row) (w : ℕ) : Type 0 where
   pub assignment : List ℕ
   pub inRange : InRange ds assignment
@@ -118,7 +120,9 @@ pub record Completes (ds : List ℕ) (rs : List Row) (k : ℕ) (q : List ℕ) : 
       → falsifies (rebuiltOver ds rs k q) (getD rs i noRow .signs) ≡ false
   pub cheapest : (p : List ℕ) → InRange ds p → drop k p ≡ q → falsified (rebuiltOver ds rs k q) rs ≤ falsified p rs
 
--- completeness of saturated rows (document 000, Definition 19.13 and Figure 19.2), for every k and every choice from variable k on
+-- completeness of saturated rows (document 000, Definition 19.13 and Figure 19.2), for every k and every choice from variable k on.
+-- Proof idea: two rows of a bucket that the higher values falsify do not clash there, so their signs nest, or they would be a pair;
+-- signs that nest pairwise meet in the least of them, which is not 0, so some value lies in all of them.
 abbrev pub Completeness : Type 0
 Completeness = (ds : List ℕ) (rs : List Row) (k : ℕ) (q : List ℕ) → AllPositive ds → ValidRows ds rs → nextPair ds rs ≡ none
     → k ≤ length ds → InRange (drop k ds) q → Completes ds rs k q

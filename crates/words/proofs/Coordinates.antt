@@ -41,17 +41,6 @@ payload-bounded o h = either (decLe 1000000 o)
 
 -- ---- there and back
 
-pub coordinate-of-payload : (o : ℕ) → o ≤ 2000000 → coordinateOf (coordinatePayload o) ≡ At o
-coordinate-of-payload o h = either (decLe 1000000 o)
-  where
-    either : Dec (1000000 ≤ o) → coordinateOf (coordinatePayload o) ≡ At o
-    either (yes up) =
-        let e : o - 1000000 + 1000000 ≡ o = omega arith in
-        rw (← payload-up o up, ← at-up (o - 1000000) (omega arith), e)
-    either (no down) =
-        let e : 268435456 + o - 1000000 - 267435456 ≡ o = omega arith in
-        rw (← payload-down o (omega arith), ← at-down (268435456 + o - 1000000) (omega arith), e)
-
 pub coordinate-inverse : (p o : ℕ) → p < 268435456 → coordinateOf p ≡ At o → (p ≡ coordinatePayload o) × (o ≤ 2000000)
 coordinate-inverse p o h e = low (decLe p 1000000)
   where

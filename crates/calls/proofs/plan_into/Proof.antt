@@ -18,7 +18,7 @@ returns c =
     let p = k .before .before .before in
     let s = p .before .before .before in
     plan-made (s .args .t .now) (s .args .target .now) (s .args .w) _ _ (p .payload .ensures .0)
-    (k .before .before .lesser .ensures) (k .plan .last .1 .0) (k .plan .ensures .1)
+    (k .before .before .lesser .ensures) _ (k .plan .last .1 .0) (k .plan .ensures)
 
 pub plan-into-spec : {M : Type 1} → statement M
 plan-into-spec =

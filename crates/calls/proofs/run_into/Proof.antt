@@ -13,7 +13,7 @@ add-result c =
     let s = p .before .before .before in
     let h =
     run-room (s .args .t .now) (s .args .out .now) (s .args .made) (s .pre) (s .args .w) _ _ (p .payload .ensures .0) (l .lesser .ensures)
-    (k .run .result) (k .run .last .1 .1 .0) (k .run .ensures .0) (k .run .ensures .2) (c .before .before .out .given .0) in
+    (k .run .result) (k .run .last .0) (k .run .last .1 .1 .0) (k .run .ensures) (c .before .before .out .given .0) in
     omega (arith, h)
 
 returns : tie.Need-returns

@@ -14,14 +14,14 @@ returns-2 c =
     let k = c .before .before .before in
     let s = k .before .before .before .before .before in
     step-none (s .args .t .now) (s .args .out .now) (s .args .made) (s .pre) (k .before .before .if1 .left) _ _
-    (k .step .ensures .0) (k .step .ensures .1) (c .match .keys2)
+    (k .step .ensures) (c .match .keys2)
 
 returns-3 : tie.Need-returns-3
 returns-3 c =
     let k = c .before .before .before .before .before in
     let s = k .before .before .before .before .before in
     step-made (s .args .t .now) (s .args .out .now) (s .args .made) (s .pre) (k .before .before .if1 .left) _ _
-    (k .step .ensures .0) (k .step .ensures .1) _ (c .before .answer .given .1)
+    (k .step .ensures) _ (c .before .answer .given .1)
 
 pub step-into-spec : {M : Type 1} → statement M
 step-into-spec =

@@ -2,7 +2,7 @@
 -- claim decide.
 use native.Mathlib.Omega.{arith}
 use borrow.Author.Needs.{needs}
-use Rattle.checker.proofs.Checking.{check-refused, never-invalid, replay-asks, few-variables, check-stopped, judge-asks, check-judges}
+use Rattle.checker.proofs.Checking.{check-refused, encoded-valid, replay-asks, few-variables, check-stopped, judge-asks, check-judges}
 use Rattle.checker.proofs.check.Statement.{statement}
 use Rattle.checker.proofs.check.Tie as tie
 
@@ -11,63 +11,50 @@ returns c =
     let n = c .before .before .before .before in
     let s = n .before .before .before .before .before .before in
     check-refused (s .args .instance .now) (s .args .derivation .now) (s .args .plan .now) (s .args .claimed) (s .args .t .now)
-    (n .encode .ensures .0) (n .encode .ensures .1) (c .if1 .taken)
+    (n .encode .ensures) (c .if1 .taken)
 
-returns-2 : tie.Need-returns-2
-returns-2 c =
-    let k = c .before .before in
-    let n = k .before .before .before .before .before .before in
+read-shape-requires : tie.Need-read-shape-requires
+read-shape-requires c κs =
+    let n = c .before .before .before .before .before in
     let s = n .before .before .before .before .before .before in
-    absurd
-    (never-invalid (s .args .instance .now) (s .args .derivation .now) (s .args .plan .now) (s .args .claimed) (s .args .t .now)
-    (n .encode .ensures .0) (n .encode .ensures .1) (k .before .before .if1 .left) (k .check .ensures) (c .enum-told .given .1))
+    encoded-valid (s .args .instance .now) (s .args .derivation .now) (s .args .plan .now) (s .args .claimed) (s .args .t .now) (n .encode .ensures) (c .before .if1 .left)
 
 replay-valid-requires : tie.Need-replay-valid-requires
 replay-valid-requires c κs =
-    let k = c .before .before .before .before in
-    let n = k .before .before .before .before .before .before in
+    let n = c .before .before .before .before .before .before .before in
     let s = n .before .before .before .before .before .before in
-    replay-asks (s .args .instance .now) (s .args .derivation .now) (s .args .plan .now) (s .args .claimed) (s .args .t .now)
-    (n .encode .ensures .0) (n .encode .ensures .1) (k .before .before .if1 .left) (k .check .ensures) (c .before .before .shape .given .1)
+    replay-asks (s .args .instance .now) (s .args .derivation .now) (s .args .plan .now) (s .args .claimed) (s .args .t .now) (n .encode .ensures) (c .before .before .before .if1 .left) (c .before .read-shape .ensures)
 
-returns-3 : tie.Need-returns-3
-returns-3 c =
+returns-2 : tie.Need-returns-2
+returns-2 c =
     let d = c .before .before .before .before in
-    let k = d .before .before .before .before .before in
-    let n = k .before .before .before .before .before .before in
+    let n = d .before .before .before .before .before .before .before .before in
     let s = n .before .before .before .before .before .before in
-    check-stopped (s .args .instance .now) (s .args .derivation .now) (s .args .plan .now) (s .args .claimed) (s .args .t .now)
-    (n .encode .ensures .0) (n .encode .ensures .1) (k .before .before .if1 .left) (k .check .ensures) (d .before .before .before .shape .given .1)
+    check-stopped (s .args .instance .now) (s .args .derivation .now) (s .args .plan .now) (s .args .claimed) (s .args .t .now) (n .encode .ensures) (d .before .before .before .before .if1 .left) (d .before .before .read-shape .ensures)
     (d .replay-valid .ensures) (c .if2 .taken)
 
 add-judge : tie.Need-add-judge
 add-judge c =
     let d = c .before .before .before .before .before .before in
-    let k = d .before .before .before .before .before in
-    let n = k .before .before .before .before .before .before in
+    let n = d .before .before .before .before .before .before .before .before in
     let s = n .before .before .before .before .before .before in
-    let h = few-variables (s .args .instance .now) (s .args .derivation .now) (s .args .plan .now) (s .args .claimed) (s .args .t .now)
-    (n .encode .ensures .0) (n .encode .ensures .1) (k .before .before .if1 .left) (k .check .ensures) (d .before .before .before .shape .given .1) in
+    let h = few-variables (s .args .instance .now) (s .args .derivation .now) (s .args .plan .now) (s .args .claimed) (s .args .t .now) (n .encode .ensures) (d .before .before .before .before .if1 .left) (d .before .before .read-shape .ensures) in
     omega (arith, h)
 
 judge-requires : tie.Need-judge-requires
 judge-requires c κs =
     let d = c .before .before .before .before .before .before in
-    let k = d .before .before .before .before .before in
-    let n = k .before .before .before .before .before .before in
+    let n = d .before .before .before .before .before .before .before .before in
     let s = n .before .before .before .before .before .before in
-    judge-asks (s .args .instance .now) (s .args .derivation .now) (s .args .plan .now) (s .args .claimed) (s .args .t .now)
-    (n .encode .ensures .0) (n .encode .ensures .1) (k .before .before .if1 .left) (k .check .ensures) (d .before .before .before .shape .given .1)
+    judge-asks (s .args .instance .now) (s .args .derivation .now) (s .args .plan .now) (s .args .claimed) (s .args .t .now) (n .encode .ensures) (d .before .before .before .before .if1 .left) (d .before .before .read-shape .ensures)
     (d .replay-valid .ensures)
 
-returns-4 : tie.Need-returns-4
-returns-4 c =
+returns-3 : tie.Need-returns-3
+returns-3 c =
     let d = c .before .before .before .before .before .before .before in
-    let k = d .before .before .before .before .before in
-    let n = k .before .before .before .before .before .before in
+    let n = d .before .before .before .before .before .before .before .before in
     let s = n .before .before .before .before .before .before in
-    check-judges (s .args .instance .now) (s .args .derivation .now) (s .args .plan .now) (s .args .claimed) (s .args .t .now)
-    (n .encode .ensures .0) (n .encode .ensures .1) (k .before .before .if1 .left) (k .check .ensures) (d .before .before .before .shape .given .1)
+    check-judges (s .args .instance .now) (s .args .derivation .now) (s .args .plan .now) (s .args .claimed) (s .args .t .now) (n .encode .ensures) (d .before .before .before .before .if1 .left) (d .before .before .read-shape .ensures)
     (d .replay-valid .ensures) (c .before .before .before .if2 .left) (c .judge .ensures)
 
 pub check-spec : {M : Type 1} → statement M
@@ -77,15 +64,11 @@ check-spec =
     (λ c κs. search needs)
     (λ c. search needs)
     returns
-    (λ c κs. search needs)
-    (λ c. search needs)
-    (λ c. search needs)
-    (λ c. search needs)
-    returns-2
+    read-shape-requires
     replay-valid-requires
     (λ c. search needs)
-    returns-3
+    returns-2
     add-judge
     judge-requires
     (λ c. search needs)
-    returns-4)
+    returns-3)

@@ -69,7 +69,7 @@ same-length-2 c =
     let l = p .before .before .before in
     let g = l .before .loop .inv .0 in
     ap length (unmoved g (l .loop-test .taken) (p .named-pair .ensures) (a .before .before .before .v .given .1)
-    (a .advance .ensures .0) (a .advance .ensures .1) (c .before .number .given .1)) ∙ g .long
+    (a .advance .ensures) (c .before .number .given .1)) ∙ g .long
 
 returns-2 : tie.Need-returns-2 Inv-loop μ-loop
 returns-2 c =
@@ -77,7 +77,7 @@ returns-2 c =
     let p = a .before .before .before .before .before in
     let l = p .before .before .before in
     gives-refused (l .before .loop .inv .0) (l .loop-test .taken) (p .named-pair .ensures) (a .before .before .before .v .given .1)
-    (a .advance .ensures .0) (a .advance .ensures .1) (c .before .number .given .1)
+    (a .advance .ensures) (c .before .number .given .1)
 
 add-k : tie.Need-add-k Inv-loop μ-loop
 add-k c =
@@ -96,7 +96,7 @@ loop-again c =
     let l = p .before .before .before in
     let i = l .before .loop .inv in (
       going-on (i .0) (l .loop-test .taken) (p .named-pair .ensures) (a .before .before .before .v .given .1)
-          (a .advance .ensures .0) (a .advance .ensures .1) (c .before .now .given .1),
+          (a .advance .ensures) (c .before .now .given .1),
       i .1,
       i .2,
     )

@@ -1,14 +1,14 @@
--- `between` answers whole metres between two points: the root of the squared gaps, each gap at most 2,000,000, so that every number fits.
+-- `between` answers whole metres between two points: the root of the squared gaps, each gap at most the greatest offset, so that every number fits.
 use Prim.Native.Nat.{ℕ, _+_, _*_}
 use native.Mathlib.Omega.{arith}
 use mathlib.Core.Path.{_≡_, ap₂, _∙_}
 use borrow.Author.Needs.{needs}
-use Rattle.distance.specs.Metres.{metres, apart, metresBetween}
+use Rattle.distance.specs.Metres.{metres, difference, metresBetween}
 use Rattle.distance.proofs.Largest.{square-bounded, metres-bound}
 use Rattle.distance.proofs.between.Statement.{statement}
 use Rattle.distance.proofs.between.Tie as tie
 
-by-gaps : (e n e′ n′ a b r : ℕ) → a ≡ apart e e′ → b ≡ apart n n′ → r ≡ metres (a * a + b * b) → r ≡ metresBetween e n e′ n′
+by-gaps : (e n e′ n′ a b r : ℕ) → a ≡ difference e e′ → b ≡ difference n n′ → r ≡ metres (a * a + b * b) → r ≡ metresBetween e n e′ n′
 unfolding metresBetween
 by-gaps e n e′ n′ a b r east north s = s ∙ ap₂ (λ (x y : ℕ). metres (x * x + y * y)) east north
 

@@ -4,20 +4,24 @@ use borrow.Author.Needs.{needs}
 use borrow.Author.Tests.{not-true, not-false}
 use native.Mathlib.Omega.{arith}
 use lib.ListN.{length-set}
-use Rattle.encoding.proofs.Answering.{encode-refused, encode-short, instance-known, sizes-good, words-proper, encode-full, encodable, count-small, written-long, encode-done}
+use Rattle.encoding.proofs.Answering.{told, encode-refused, encode-short, instance-known, sizes-good, words-proper, encode-full, encodable, count-small, written-long, encode-done}
 use Rattle.encoding.proofs.encode.Statement.{statement}
 use Rattle.encoding.proofs.encode.Tie as tie
 
 returns : tie.Need-returns
-returns c =
+returns d =
+    let c = d .before in
     let s = c .before .before .before .before in
-    encode-refused (s .args .instance .now) (s .args .t .now) _ (c .before .validate .ensures) (c .if1 .taken)
+    told (d .refusal .ensures)
+    (encode-refused (s .args .instance .now) (s .args .t .now) _ (c .before .validate .ensures) (c .if1 .taken))
 
 returns-2 : tie.Need-returns-2
-returns-2 c =
+returns-2 d =
+    let c = d .before in
     let v = c .before .before .before in
     let s = v .before .before .before in
-    encode-short (s .args .instance .now) (s .args .t .now) _ (v .validate .ensures) (c .before .before .if1 .left) (c .if2 .taken)
+    told (d .refusal2 .ensures)
+    (encode-short (s .args .instance .now) (s .args .t .now) _ (v .validate .ensures) (c .before .before .if1 .left) (c .if2 .taken))
 
 full-signs-requires : tie.Need-full-signs-requires
 full-signs-requires c κs =
@@ -37,7 +41,8 @@ has-room-requires c κs =
     (instance-known ws t _ (v .validate .ensures) z .within, f .full-signs .ensures .packed, words-proper ws t _ (v .validate .ensures) z long _ (f .full-signs .ensures))
 
 returns-3 : tie.Need-returns-3
-returns-3 c =
+returns-3 d =
+    let c = d .before in
     let f = c .before .before .before in
     let v = f .before .before .before .before .before .before in
     let s = v .before .before .before in
@@ -45,8 +50,9 @@ returns-3 c =
     let t = s .args .t .now in
     let z = f .before .before .before .before .before .if1 .left in
     let long = f .before .before .before .if2 .left in
-    encode-full ws t _ (v .validate .ensures) z long _ (f .full-signs .ensures) _ (c .before .before .room .ensures .0) _ (c .before .has-room .ensures)
-    (not-true _ (c .if3 .taken))
+    told (d .refusal3 .ensures)
+    (encode-full ws t _ (v .validate .ensures) z long _ (f .full-signs .ensures) _ (c .before .before .room .ensures .0) _ (c .before .has-room .ensures)
+    (not-true _ (c .if3 .taken)))
 
 clear-requires : tie.Need-clear-requires
 clear-requires c κs =
@@ -95,7 +101,8 @@ count-requires : tie.Need-count-requires
 count-requires c κs = let h = count-within c in omega arith
 
 same-length : tie.Need-same-length
-same-length c =
+same-length d =
+    let c = d .before in
     let f = c .before .before .before .before .before .before .before .before .before .before .before .before .before in
     let v = f .before .before .before .before .before .before in
     let s = v .before .before .before in
@@ -109,7 +116,8 @@ same-length c =
     simp length-set l
 
 returns-4 : tie.Need-returns-4
-returns-4 c =
+returns-4 d =
+    let c = d .before in
     let f = c .before .before .before .before .before .before .before .before .before .before .before .before .before in
     let v = f .before .before .before .before .before .before in
     let s = v .before .before .before in
@@ -117,22 +125,26 @@ returns-4 c =
     let t = s .args .t .now in
     let z = f .before .before .before .before .before .if1 .left in
     let long = f .before .before .before .if2 .left in
-    encode-done ws t _ (v .validate .ensures) z long _ (f .full-signs .ensures) _ (c .before .before .before .before .before .before .before .before .before .before .before .before .room .ensures .0) _ (c .before .before .before .before .before .before .before .before .before .before .before .has-room .ensures)
-    (not-false _ (c .before .before .before .before .before .before .before .before .before .before .if3 .left)) _ (c .before .before .before .before .before .before .before .clear .ensures) _ _ (c .before .before .before .encode-entries .ensures) _ (c .count .ensures)
+    told (d .success .ensures)
+    (encode-done ws t _ (v .validate .ensures) z long _ (f .full-signs .ensures) _ (c .before .before .before .before .before .before .before .before .before .before .before .before .room .ensures .0) _ (c .before .before .before .before .before .before .before .before .before .before .before .has-room .ensures)
+    (not-false _ (c .before .before .before .before .before .before .before .before .before .before .if3 .left)) _ (c .before .before .before .before .before .before .before .clear .ensures) _ _ (c .before .before .before .encode-entries .ensures) _ (c .count .ensures))
 
 pub encode-spec : {M : Type 1} → statement M
 encode-spec =
     tie.close
     (tie.spec
     (λ c κs. search needs)
+    (λ c κs. search needs)
     returns
     (λ c. search needs)
     (λ c. search needs)
+    (λ c κs. search needs)
     returns-2
     full-signs-requires
     (λ c. search needs)
     (λ c κs. search needs)
     has-room-requires
+    (λ c κs. search needs)
     returns-3
     clear-requires
     (λ c. search needs)
@@ -143,5 +155,6 @@ encode-spec =
     (λ c. search needs)
     (λ c. search needs)
     (λ c. search needs)
+    (λ c κs. search needs)
     same-length
     returns-4)

@@ -2,34 +2,40 @@
 use borrow.Author.Needs.{needs}
 use mathlib.Core.Path.{sym, ap, _∙_}
 use Rattle.input.specs.Calls.{refusedInstance, faultIn}
-use Rattle.input.proofs.Validating.{headed-of, headed-bounds, no-head, sizes-broken, scan-broken, scan-good}
+use Rattle.input.proofs.Validating.{headed-of, headed-bounds, no-head, sizes-broken, entries-within, scan-broken, scan-good}
 use Rattle.input.proofs.validate.Statement.{statement}
 use Rattle.input.proofs.validate.Tie as tie
 
 returns : tie.Need-returns
-returns c = c .refused-instance .ensures ∙ no-head _ _ (sym (c .before .enum-told .given .1) ∙ c .before .before .before .read-head .ensures)
+returns c =
+    c .refused-instance .ensures
+    ∙ ap refusedInstance (c .before .fault-in .ensures ∙ ap faultIn (c .before .before .enum-told .given .1))
+    ∙ no-head _ _ (sym (c .before .before .enum-told .given .1) ∙ c .before .before .before .before .read-head .ensures)
 
 read-sizes-requires : tie.Need-read-sizes-requires
-read-sizes-requires c κs = headed-bounds _ _ (headed-of _ _ (sym (c .before .n .given .1) ∙ c .before .before .before .read-head .ensures)) .1
+read-sizes-requires c κs =
+    let b = headed-bounds _ _ (headed-of _ _ (sym (c .before .head .given .1) ∙ c .before .before .before .read-head .ensures)) in (b .1, b .2)
 
 returns-2 : tie.Need-returns-2
 returns-2 c =
     c .refused-instance2 .ensures
-    ∙ sizes-broken _ _ (headed-of _ _ (sym (c .before .before .before .before .before .n .given .1) ∙ c .before .before .before .before .before .before .before .read-head .ensures)) _ (c .before .before .before .read-sizes .ensures) (c .before .if1 .taken)
+    ∙ sizes-broken _ _ (headed-of _ _ (sym (c .before .before .before .before .before .head .given .1) ∙ c .before .before .before .before .before .before .before .read-head .ensures)) _ (c .before .before .before .read-sizes .ensures) (c .before .if1 .taken)
 
 scan-entries-requires : tie.Need-scan-entries-requires
-scan-entries-requires c κs = headed-bounds _ _ (headed-of _ _ (sym (c .before .before .before .before .before .before .n .given .1) ∙ c .before .before .before .before .before .before .before .before .read-head .ensures)) .1
+scan-entries-requires c κs =
+    let h = headed-of _ _ (sym (c .before .before .before .before .before .before .head .given .1) ∙ c .before .before .before .before .before .before .before .before .read-head .ensures) in
+    (headed-bounds _ _ h .1, entries-within _ _ h _ (c .before .before .before .before .read-sizes .ensures) (c .before .before .if1 .left))
 
 returns-3 : tie.Need-returns-3
 returns-3 c =
     c .refused-instance3 .ensures
-    ∙ ap refusedInstance (c .before .fault-in .ensures ∙ ap faultIn (c .before .before .enum-told2 .given .1))
-    ∙ scan-broken (c .before .before .before .before .before .before .before .before .before .before .before .before .before .before .before .args .words .now) _ (headed-of _ _ (sym (c .before .before .before .before .before .before .before .before .before .before .before .n .given .1) ∙ c .before .before .before .before .before .before .before .before .before .before .before .before .before .read-head .ensures)) _ (c .before .before .before .before .before .before .before .before .before .read-sizes .ensures) (c .before .before .before .before .before .before .before .if1 .left)
+    ∙ ap refusedInstance (c .before .fault-in2 .ensures ∙ ap faultIn (c .before .before .enum-told2 .given .1))
+    ∙ scan-broken (c .before .before .before .before .before .before .before .before .before .before .before .before .before .before .before .args .words .now) _ (headed-of _ _ (sym (c .before .before .before .before .before .before .before .before .before .before .before .head .given .1) ∙ c .before .before .before .before .before .before .before .before .before .before .before .before .before .read-head .ensures)) _ (c .before .before .before .before .before .before .before .before .before .read-sizes .ensures) (c .before .before .before .before .before .before .before .if1 .left)
     _ (c .before .before .before .before .scan-entries .ensures) _ (c .before .before .enum-told2 .given .1)
 
 returns-4 : tie.Need-returns-4
 returns-4 c =
-    scan-good (c .before .before .before .before .before .before .before .before .before .before .before .before .before .before .args .words .now) _ (headed-of _ _ (sym (c .before .before .before .before .before .before .before .before .before .before .n .given .1) ∙ c .before .before .before .before .before .before .before .before .before .before .before .before .read-head .ensures)) _ (c .before .before .before .before .before .before .before .before .read-sizes .ensures) (c .before .before .before .before .before .before .if1 .left)
+    scan-good (c .before .before .before .before .before .before .before .before .before .before .before .before .before .before .args .words .now) _ (headed-of _ _ (sym (c .before .before .before .before .before .before .before .before .before .before .head .given .1) ∙ c .before .before .before .before .before .before .before .before .before .before .before .before .read-head .ensures)) _ (c .before .before .before .before .before .before .before .before .read-sizes .ensures) (c .before .before .before .before .before .before .if1 .left)
     _ (c .before .before .before .scan-entries .ensures) _ (c .before .got .given .1)
 
 pub validate-spec : {M : Type 1} → statement M
@@ -39,6 +45,7 @@ validate-spec =
     (λ c κs. search needs)
     (λ c. search needs)
     (λ c. search needs)
+    (λ c κs. search needs)
     (λ c κs. search needs)
     returns
     (λ c. search needs)

@@ -5,10 +5,10 @@ use Rattle.planning.proofs.finished.Statement.{statement}
 use Rattle.planning.proofs.finished.Tie as tie
 
 returns : tie.Need-returns
-returns c = finished-refused _ _ _ _ (c .before .before .before .plan2 .ensures .0) _ (c .before .if1 .taken) (c .refused .ensures)
+returns c = finished-refused _ _ _ _ _ (c .before .before .before .plan2 .ensures) _ (c .before .if1 .taken) (c .refused .ensures)
 
 returns-2 : tie.Need-returns-2
-returns-2 c = let p = c .before .before .plan2 .ensures in finished-planned _ _ _ _ (p .0) _ (p .1) (c .if1 .left)
+returns-2 c = finished-planned _ _ _ _ _ (c .before .before .plan2 .ensures) (c .if1 .left)
 
 pub finished-spec : {M : Type 1} → statement M
 finished-spec = tie.close (tie.spec (λ c. search needs) (λ c κs. search needs) (λ c κs. search needs) returns returns-2)

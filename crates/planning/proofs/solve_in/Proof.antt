@@ -1,10 +1,9 @@
 -- `solve_in` answers the refusal of the instance, or what the instance made came to, which stands in front of its buffer.
 use native.Mathlib.Omega.{arith}
-use mathlib.Core.Path.{sym, ap}
+use mathlib.Core.Path.{sym}
 use lib.Seq.{length-take-le}
 use denote.Ref.{now}
 use borrow.Author.Needs.{needs}
-use Rattle.sheet.specs.Calls.{Made}
 use Rattle.sheet.proofs.MakeTests.{MadeIn}
 use Rattle.planning.proofs.Solving.{sheet-made, sheet-refused, sheet-run}
 use Rattle.planning.proofs.solve_in.Statement.{statement}
@@ -15,7 +14,7 @@ returns c =
     let m = c .before .before .before .before in
     let a = m .before .before .before .before .before .before .args in
     let e = m .make .ensures in
-    sheet-refused (now (a .sheet)) (now (a .instance)) _ _ (ap (λ (m : Made). m .answer) e) (ap (λ (m : Made). m .target) e) _ (now (a .table)) (now (a .steps)) _ (c .before .if1 .taken)
+    sheet-refused (now (a .sheet)) (now (a .instance)) _ _ e _ (now (a .table)) (now (a .steps)) _ (c .before .if1 .taken)
     (c .refused .ensures)
 
 -- the instance stands in front of the buffer
@@ -26,7 +25,7 @@ module _ (c : tie.Else1) where
   made =
       let a = c .before .before .before .before .before .before .before .before .before .args in
       let e = c .before .before .before .make .ensures in
-      sheet-made (now (a .sheet)) (now (a .instance)) _ _ (ap (λ (m : Made). m .answer) e) (ap (λ (m : Made). m .target) e) (c .if1 .left)
+      sheet-made (now (a .sheet)) (now (a .instance)) _ _ e (c .if1 .left)
 
 slice-reshare-prefix-solve-instance : tie.Need-slice-reshare-prefix-solve-instance
 slice-reshare-prefix-solve-instance c = let m = made c in omega (arith, c .before .before .before .make .kept .1 .0)
@@ -40,7 +39,7 @@ returns-2 c =
     let m = b .before .before .before in
     let a = m .before .before .before .before .before .before .args in
     let e = m .make .ensures in
-    sheet-run (now (a .sheet)) (now (a .instance)) _ _ (ap (λ (m : Made). m .answer) e) (ap (λ (m : Made). m .target) e) _ (now (a .table)) (now (a .steps)) _ _ _ (b .if1 .left)
+    sheet-run (now (a .sheet)) (now (a .instance)) _ _ e _ (now (a .table)) (now (a .steps)) _ _ _ (b .if1 .left)
     (c .before .before .before .before .solve-instance .ensures)
 
 pub solve-in-spec : {M : Type 1} → statement M

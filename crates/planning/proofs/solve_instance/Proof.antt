@@ -9,16 +9,14 @@ returns : tie.Need-returns
 returns c =
     let k = c .before .before .before .before in
     let a = k .before .before .before .before .before .args in
-    let e = k .encode .ensures in
-    instance-refused (now (a .instance)) _ (now (a .table)) (now (a .steps)) _ _ _ (e .0) (e .1) (c .before .if1 .taken) (c .refused .ensures)
+    instance-refused (now (a .instance)) _ (now (a .table)) (now (a .steps)) _ _ _ (k .encode .ensures) (c .before .if1 .taken) (c .refused .ensures)
 
 returns-2 : tie.Need-returns-2
 returns-2 c =
     let b = c .before .before .before .before .before .before .before in
     let k = b .before .before .before in
     let a = k .before .before .before .before .before .args in
-    let e = k .encode .ensures in
-    instance-run (now (a .instance)) _ (now (a .table)) (now (a .steps)) _ _ _ (e .0) (e .1) _ _ (b .if1 .left)
+    instance-run (now (a .instance)) _ (now (a .table)) (now (a .steps)) _ _ _ (k .encode .ensures) _ _ (b .if1 .left)
     (c .before .before .before .before .solve-table .ensures)
 
 pub solve-instance-spec : {M : Type 1} → statement M

@@ -9,8 +9,7 @@ returns : tie.Need-returns
 returns c =
     let r = c .before .before .before .before .before .before in
     let a = r .before .before .before .before .before .args in
-    let e = r .run .ensures in
-    table-run _ (now (a .table)) (now (a .steps)) _ _ _ _ (e .0) (e .1) (e .2) (c .ended .ensures)
+    table-run _ (now (a .table)) (now (a .steps)) _ _ _ _ (r .run .ensures) (c .ended .ensures)
 
 pub solve-table-spec : {M : Type 1} → statement M
 solve-table-spec =

@@ -12,7 +12,7 @@ enum-known-advanced : tie.Need-enum-known-advanced
 enum-known-advanced c = search needs
 
 returns : tie.Need-returns
-returns c = (not-made (c .enum-told .given .1), λ count old e. refl)
+returns c = (not-made (c .enum-told .given .1), λ count e. refl)
 
 returns-2 : tie.Need-returns-2
 returns-2 c = (one-number (c .before .advanced .given .1), not-refused (c .before .advanced .given .1))

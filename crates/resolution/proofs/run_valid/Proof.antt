@@ -118,7 +118,7 @@ unmoved : (c : tie.After-enum-told2 Inv-loop μ-loop)
     → c .before .before .before .before .advance .last .0 ≡ c .before .before .before .before .before .before .before .before .before .before .before .before .before .before .loop .t
 unmoved c =
     let a = c .before .before .before .before in
-    advance-refused _ _ _ _ (a .advance .ensures .0) (a .advance .ensures .1) _ (c .enum-told2 .given .1) .1
+    advance-refused _ _ _ _ (a .advance .ensures) _ (c .enum-told2 .given .1) .1
 
 ended-requires-3 : tie.Need-ended-requires-3 Inv-loop μ-loop
 ended-requires-3 c κs =
@@ -140,7 +140,7 @@ returns-3 c =
     let n = a .before .before .before .before .before .before in
     let g = n .before .before .before .before .loop .inv .0 in
     gives-refused g _ (next n) (omega (arith, g .within, a .before .before .before .before .if1 .left)) _ _
-    (advance-refused _ _ _ _ (a .advance .ensures .0) (a .advance .ensures .1) _ (told .enum-told2 .given .1)) _ _
+    (advance-refused _ _ _ _ (a .advance .ensures) _ (told .enum-told2 .given .1)) _ _
     (c .before .refusal-in .ensures .0 _ (told .enum-told2 .given .1)) (c .ended3 .ensures)
 
 cast-step : tie.Need-cast-step Inv-loop μ-loop
@@ -185,8 +185,8 @@ loop-again c =
     let a = c .before .before .before .before .before .before in
     let n = a .before .before .before .before .before .before in
     let i = n .before .before .before .before .loop .inv in (
-      going-on (i .0) _ (next n) (omega (arith, i .0 .within, a .before .before .before .before .if1 .left)) _ _ _
-          (advance-made _ _ _ _ (a .advance .ensures .0) (a .advance .ensures .1) _ _ (c .before .before .advanced .given .1)) _ (c .step .ensures)
+      going-on (i .0) _ (next n) (omega (arith, i .0 .within, a .before .before .before .before .if1 .left)) _ _
+          (advance-made _ _ _ _ (a .advance .ensures) _ (c .before .before .advanced .given .1)) _ (c .step .ensures)
           _ (a .before .before .resume .ensures),
       i .1,
       i .2,

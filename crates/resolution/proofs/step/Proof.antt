@@ -104,7 +104,7 @@ returns-3 c =
     let a = c .before .before .before .before .before in
     let n = a .before .before .before in
     let k = n .before .before .before .before .before .before in
-    called-made _ (valid k .0) _ (next n) _ _ (a .advance .ensures .0) (a .advance .ensures .1) _ _ _ (c .before .enum-told3 .given .1) (c .step .ensures)
+    called-made _ (valid k .0) _ (next n) _ _ (a .advance .ensures) _ _ (c .before .enum-told3 .given .1) (c .step .ensures)
 
 same-length-4 : tie.Need-same-length-4
 same-length-4 c = search needs
@@ -114,7 +114,7 @@ returns-4 c =
     let a = c .before .before .before .before .before in
     let n = a .before .before .before in
     let k = n .before .before .before .before .before .before in
-    called-refused _ (valid k .0) _ (next n) _ _ (a .advance .ensures .0) (a .advance .ensures .1) _ (c .before .advanced .given .1)
+    called-refused _ (valid k .0) _ (next n) _ _ (a .advance .ensures) _ (c .before .advanced .given .1)
 
 pub step-spec : {M : Type 1} → statement M
 step-spec =

@@ -4,39 +4,44 @@ use mathlib.Core.Path.{sym, ap, _∙_}
 use Rattle.input.specs.Calls.{faultIn}
 use Rattle.sheet.specs.Calls.{refusedSheet}
 use Rattle.input.proofs.Validating.{headed-of, headed-bounds}
-use Rattle.sheet.proofs.Sheets.{no-head, stations-broken, sizes-long, scan-broken, scan-good}
+use Rattle.sheet.proofs.Sheets.{no-head, stations-broken, entries-within, sizes-long, scan-broken, scan-good}
 use Rattle.sheet.proofs.read_sheet.Statement.{statement}
 use Rattle.sheet.proofs.read_sheet.Tie as tie
 
 returns : tie.Need-returns
-returns c = c .refused-sheet .ensures ∙ no-head _ _ (sym (c .before .enum-told .given .1) ∙ c .before .before .before .read-head .ensures)
+returns c =
+    c .refused-sheet .ensures
+    ∙ ap refusedSheet (c .before .fault-in .ensures ∙ ap faultIn (c .before .before .enum-told .given .1))
+    ∙ no-head _ _ (sym (c .before .before .enum-told .given .1) ∙ c .before .before .before .before .read-head .ensures)
 
 read-stations-requires : tie.Need-read-stations-requires
-read-stations-requires c κs = let b = headed-bounds _ _ (headed-of _ _ (sym (c .before .n .given .1) ∙ c .before .before .before .read-head .ensures)) in (b .1, b .2)
+read-stations-requires c κs = let b = headed-bounds _ _ (headed-of _ _ (sym (c .before .head .given .1) ∙ c .before .before .before .read-head .ensures)) in (b .1, b .2)
 
 returns-2 : tie.Need-returns-2
 returns-2 c =
     c .refused-sheet2 .ensures
-    ∙ stations-broken _ _ (headed-of _ _ (sym (c .before .before .before .before .before .n .given .1) ∙ c .before .before .before .before .before .before .before .read-head .ensures)) _ (c .before .before .before .read-stations .ensures) (c .before .if1 .taken)
+    ∙ stations-broken _ _ (headed-of _ _ (sym (c .before .before .before .before .before .head .given .1) ∙ c .before .before .before .before .before .before .before .read-head .ensures)) _ (c .before .before .before .read-stations .ensures) (c .before .if1 .taken)
 
 count-legs-requires : tie.Need-count-legs-requires
 count-legs-requires c κs =
-    let b = headed-bounds _ _ (headed-of _ _ (sym (c .before .before .before .before .before .before .n .given .1) ∙ c .before .before .before .before .before .before .before .before .read-head .ensures)) in
-    (b .1, sizes-long (c .before .before .before .before .before .before .before .before .before .before .args .words .now) _ (headed-of _ _ (sym (c .before .before .before .before .before .before .n .given .1) ∙ c .before .before .before .before .before .before .before .before .read-head .ensures)) _ (c .before .before .before .before .read-stations .ensures) (c .before .before .if1 .left))
+    let b = headed-bounds _ _ (headed-of _ _ (sym (c .before .before .before .before .before .before .head .given .1) ∙ c .before .before .before .before .before .before .before .before .read-head .ensures)) in
+    (b .1, sizes-long (c .before .before .before .before .before .before .before .before .before .before .args .words .now) _ (headed-of _ _ (sym (c .before .before .before .before .before .before .head .given .1) ∙ c .before .before .before .before .before .before .before .before .read-head .ensures)) _ (c .before .before .before .before .read-stations .ensures) (c .before .before .if1 .left))
 
 scan-entries-requires : tie.Need-scan-entries-requires
-scan-entries-requires c κs = headed-bounds _ _ (headed-of _ _ (sym (c .before .before .before .before .before .before .before .before .n .given .1) ∙ c .before .before .before .before .before .before .before .before .before .before .read-head .ensures)) .1
+scan-entries-requires c κs =
+    let h = headed-of _ _ (sym (c .before .before .before .before .before .before .before .before .head .given .1) ∙ c .before .before .before .before .before .before .before .before .before .before .read-head .ensures) in
+    (headed-bounds _ _ h .1, entries-within _ _ h _ (c .before .before .before .before .before .before .read-stations .ensures) (c .before .before .before .before .if1 .left))
 
 returns-3 : tie.Need-returns-3
 returns-3 c =
     c .refused-sheet3 .ensures
-    ∙ ap refusedSheet (c .before .fault-in .ensures ∙ ap faultIn (c .before .before .enum-told3 .given .1))
-    ∙ scan-broken (c .before .before .before .before .before .before .before .before .before .before .before .before .before .before .before .before .before .args .words .now) _ (headed-of _ _ (sym (c .before .before .before .before .before .before .before .before .before .before .before .before .before .n .given .1) ∙ c .before .before .before .before .before .before .before .before .before .before .before .before .before .before .before .read-head .ensures)) _ (c .before .before .before .before .before .before .before .before .before .before .before .read-stations .ensures) (c .before .before .before .before .before .before .before .before .before .if1 .left) _ (c .before .before .before .before .before .before .count-legs .ensures .0)
+    ∙ ap refusedSheet (c .before .fault-in2 .ensures ∙ ap faultIn (c .before .before .enum-told3 .given .1))
+    ∙ scan-broken (c .before .before .before .before .before .before .before .before .before .before .before .before .before .before .before .before .before .args .words .now) _ (headed-of _ _ (sym (c .before .before .before .before .before .before .before .before .before .before .before .before .before .head .given .1) ∙ c .before .before .before .before .before .before .before .before .before .before .before .before .before .before .before .read-head .ensures)) _ (c .before .before .before .before .before .before .before .before .before .before .before .read-stations .ensures) (c .before .before .before .before .before .before .before .before .before .if1 .left) _ (c .before .before .before .before .before .before .count-legs .ensures .0)
     _ (c .before .before .before .before .scan-entries .ensures) _ (c .before .before .enum-told3 .given .1)
 
 returns-4 : tie.Need-returns-4
 returns-4 c =
-    scan-good (c .before .before .before .before .before .before .before .before .before .before .before .before .before .before .before .args .words .now) _ (headed-of _ _ (sym (c .before .before .before .before .before .before .before .before .before .before .before .n .given .1) ∙ c .before .before .before .before .before .before .before .before .before .before .before .before .before .read-head .ensures)) _ (c .before .before .before .before .before .before .before .before .before .read-stations .ensures) (c .before .before .before .before .before .before .before .if1 .left) _ (c .before .before .before .before .count-legs .ensures .0)
+    scan-good (c .before .before .before .before .before .before .before .before .before .before .before .before .before .before .before .args .words .now) _ (headed-of _ _ (sym (c .before .before .before .before .before .before .before .before .before .before .before .head .given .1) ∙ c .before .before .before .before .before .before .before .before .before .before .before .before .before .read-head .ensures)) _ (c .before .before .before .before .before .before .before .before .before .read-stations .ensures) (c .before .before .before .before .before .before .before .if1 .left) _ (c .before .before .before .before .count-legs .ensures .0)
     _ (c .before .before .scan-entries .ensures) _ (c .enum-told2 .given .1)
 
 pub read-sheet-spec : {M : Type 1} → statement M
@@ -46,6 +51,7 @@ read-sheet-spec =
     (λ c κs. search needs)
     (λ c. search needs)
     (λ c. search needs)
+    (λ c κs. search needs)
     (λ c κs. search needs)
     returns
     (λ c. search needs)

@@ -6,7 +6,7 @@ use lib.ListN.{length, length-set}
 use borrow.Author.Needs.{needs}
 use Rattle.conclusions.proofs.Filling.{packed-zeros}
 use Rattle.table.specs.Layout.{maxRows}
-use Rattle.stepping.specs.Turns.{Planned}
+use Rattle.stepping.specs.Turns.{Surveyed}
 use Rattle.table.proofs.Reading.{Ready, ready-shape}
 use Rattle.stepping.proofs.Advancing.{refused, planned-zero, raise-asks, lessen-asks, lessen-asks-first, append-asks, end-bounds, advanced}
 use Rattle.stepping.proofs.advance.Statement.{statement}
@@ -17,7 +17,7 @@ ready s = ready-shape (s .args .t .now) (s .pre .0) (s .args .shape) (s .pre .1)
 
 -- past the test of its number the plan may be made
 planned : (e : tie.Else1)
-    → Planned (e .before .before .before .before .before .before .before .args .t .now) (record { variable = e .before .before .before .before .before .before .before .args .v; first = e .before .before .before .before .before .before .before .args .i; second = e .before .before .before .before .before .before .before .args .j })
+    → Surveyed (e .before .before .before .before .before .before .before .args .t .now) (record { variable = e .before .before .before .before .before .before .before .args .v; first = e .before .before .before .before .before .before .before .args .i; second = e .before .before .before .before .before .before .before .args .j })
     (e .before .before .survey .last .1 .1 .1 .1 .1 .0) (e .before .before .survey .last .1 .1 .1 .1 .1 .1 .0) (e .before .before .survey .result .kept) (e .before .before .survey .result .moved) 0
 planned e = planned-zero (e .before .before .survey .ensures) (e .if1 .left)
 

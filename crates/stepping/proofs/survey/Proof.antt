@@ -1,7 +1,7 @@
--- `survey` meets its contract: the callees' answers are all that `Seen` asks, and the two tests give the verdict.
+-- `survey` meets its contract: the callees' answers are all that `Seen` asks, and the number is that of the finished step.
 use native.Mathlib.Omega.{arith}
 use borrow.Author.Needs.{needs}
-use Rattle.stepping.proofs.Surveying.{Bounds, bounds, premise-below, full-packed, Seen, seen, planned-heavy, planned-full, planned-fits}
+use Rattle.stepping.proofs.Surveying.{Bounds, bounds, premise-below, full-packed, Seen, seen, surveyed}
 use Rattle.stepping.proofs.survey.Statement.{statement}
 use Rattle.stepping.proofs.survey.Tie as tie
 
@@ -65,39 +65,27 @@ known l =
     (found .conclude .ensures .0) (found .conclude .ensures .1) (found .conclude .ensures .2)
     (looked .0) (looked .1) (looked .2)
 
-returns : tie.Need-returns
-returns c = planned-heavy (known (c .before)) (c .if1 .taken)
-
 sub-left : tie.Need-sub-left
-sub-left c = let b = limits (c .before .before .before .before .before .before .before .before .before .before .before .before .before .before) in omega (arith, c .used .ensures .1)
+sub-left c = let b = limits (c .before .before .before .before .before .before .before .before .before .before .before .before .before) in omega (arith, c .used .ensures .1)
 
 sub-left-2 : tie.Need-sub-left-2
-sub-left-2 c = let b = limits (c .before .before .before .before .before .before .before .before .before .before .before .before .before .before .before) in omega (arith, c .before .used .ensures .1, c .used2 .ensures .1)
+sub-left-2 c = let b = limits (c .before .before .before .before .before .before .before .before .before .before .before .before .before .before) in omega (arith, c .before .used .ensures .1, c .used2 .ensures .1)
 
 room-requires : tie.Need-room-requires
-room-requires c κs = let b = limits (c .before .before .before .before .before .before .before .before .before .before .before .before .before .before .before) in omega arith
+room-requires c κs = let b = limits (c .before .before .before .before .before .before .before .before .before .before .before .before .before .before) in omega arith
 
-add-if2 : tie.Need-add-if2
-add-if2 c =
-    let l = c .before .before .before .before .before in
+refusal-of-requires : tie.Need-refusal-of-requires
+refusal-of-requires c κs =
+    let l = c .before .before .before in
     let b = limits (l .before .before .before .before .before .before .before .before .before .before .before .before) in
     omega (arith, l .look .ensures .3, l .before .before .before .conclude .ensures .1)
 
-returns-2 : tie.Need-returns-2
-returns-2 c =
-    let left = c .before .before .before .before .before in
-    let l = left .before in
+returns : tie.Need-returns
+returns c =
+    let l = c .before .before .before .before in
     let s = l .before .before .before .before .before .before .before .before .before .before .before .before in
-    planned-full (s .args .t .now) (s .pre .0) (known l) (left .if1 .left) (s .args .shape) (s .pre .1) _ _ _
-    (c .before .before .before .before .used .ensures .0) (c .before .before .before .used2 .ensures .0) (c .before .before .room .ensures .0) (c .if2 .taken)
-
-returns-3 : tie.Need-returns-3
-returns-3 c =
-    let left = c .before .before .before .before .before in
-    let l = left .before in
-    let s = l .before .before .before .before .before .before .before .before .before .before .before .before in
-    planned-fits (s .args .t .now) (s .pre .0) (known l) (left .if1 .left) (s .args .shape) (s .pre .1) _ _ _
-    (c .before .before .before .before .used .ensures .0) (c .before .before .before .used2 .ensures .0) (c .before .before .room .ensures .0) (c .if2 .left)
+    surveyed (s .args .t .now) (s .pre .0) (known l) (s .args .shape) (s .pre .1) _ _ _ _
+    (c .before .before .before .used .ensures .0) (c .before .before .used2 .ensures .0) (c .before .room .ensures .0) (c .refusal-of .ensures)
 
 pub survey-spec : {M : Type 1} → statement M
 survey-spec =
@@ -111,12 +99,10 @@ survey-spec =
     clause-of-requires-2
     conclude-requires
     look-requires
-    returns
     (λ c κs. search needs)
     sub-left
     (λ c κs. search needs)
     sub-left-2
     room-requires
-    add-if2
-    returns-2
-    returns-3)
+    refusal-of-requires
+    returns)

@@ -1,12 +1,12 @@
 -- `read_stations` answers the sizes of n stations and the index behind them: i of them are read, and the answer is that of the words still to come.
 use Prim.Native.Nat.{_-_}
 use borrow.Author.Needs.{needs}
-use borrow.Author.Tests.{not-true, not-false}
 use native.Mathlib.Omega.{arith}
-use mathlib.Core.Path.{sym, _∙_}
-use lib.ListN.{drop}
-use Rattle.input.proofs.Sizes.{sized-of}
-use Rattle.sheet.proofs.Located.{StationsSoFar, stations-start, sized-inside, positions-end, stations-fault, stations-broken, stations-more, stations-end}
+use mathlib.Core.Path.{ap, _∙_}
+use Rattle.input.specs.Calls.{faultIn}
+use Rattle.input.specs.Phases.{refusedStations}
+use Rattle.sheet.proofs.Located.{StationsSoFar, stations-start, stations-end}
+use Rattle.sheet.proofs.OneStation.{next-fault, next-station}
 use Rattle.sheet.proofs.stations.read_stations.Statement.{statement}
 use Rattle.sheet.proofs.stations.read_stations.Tie as tie
 
@@ -19,43 +19,26 @@ abbrev μ-loop : tie.MeasureT-loop
 returns : tie.Need-returns Inv-loop μ-loop
 returns c =
     c .refused-stations .ensures
-    ∙ stations-fault (c .before .before .before .before .before .before .before .args .words .now) (c .before .before .before .before .before .before .before .args .n) _ (c .before .before .before .before .before .loop .at) (c .before .before .before .before .before .loop .i) (c .before .before .before .before .before .before .before .pre .0) (c .before .before .before .before .before .loop .inv) (c .before .before .before .before .loop-test .taken) _ _ (c .before .before .before .read-size .ensures) (c .before .enum-told .given .1)
-
-add-positions-at : tie.Need-add-positions-at Inv-loop μ-loop
-add-positions-at c =
-    let b = sized-inside (c .before .before .before .before .before .before .before .args .words .now) (c .before .before .before .before .before .before .before .args .n) _ (c .before .before .before .before .before .loop .at) (c .before .before .before .before .before .loop .i) (c .before .before .before .before .before .before .before .pre .0) (c .before .before .before .before .before .loop .inv) _ (sized-of (drop (c .before .before .before .before .before .loop .at) (c .before .before .before .before .before .before .before .args .words .now)) _ (sym (c .before .d .given .1) ∙ c .before .before .before .read-size .ensures)) in record { fits = omega arith }
-
-positions-at-requires : tie.Need-positions-at-requires Inv-loop μ-loop
-positions-at-requires c κs = sized-inside (c .before .before .before .before .before .before .before .args .words .now) (c .before .before .before .before .before .before .before .args .n) _ (c .before .before .before .before .before .loop .at) (c .before .before .before .before .before .loop .i) (c .before .before .before .before .before .before .before .pre .0) (c .before .before .before .before .before .loop .inv) _ (sized-of (drop (c .before .before .before .before .before .loop .at) (c .before .before .before .before .before .before .before .args .words .now)) _ (sym (c .before .d .given .1) ∙ c .before .before .before .read-size .ensures)) .0
-
-returns-2 : tie.Need-returns-2 Inv-loop μ-loop
-returns-2 c =
-    c .refused-stations2 .ensures
-    ∙ stations-broken (c .before .before .before .before .before .before .before .before .before .before .args .words .now) (c .before .before .before .before .before .before .before .before .before .before .args .n) _ (c .before .before .before .before .before .before .before .before .loop .at) (c .before .before .before .before .before .before .before .before .loop .i) (c .before .before .before .before .before .before .before .before .before .before .pre .0) (c .before .before .before .before .before .before .before .before .loop .inv) (c .before .before .before .before .before .before .before .loop-test .taken) _ (sized-of (drop (c .before .before .before .before .before .before .before .before .loop .at) (c .before .before .before .before .before .before .before .before .before .before .args .words .now)) _ (sym (c .before .before .before .before .d .given .1) ∙ c .before .before .before .before .before .before .read-size .ensures))
-    (sym (c .before .before .positions-at .ensures) ∙ not-true _ (c .before .if1 .taken))
+    ∙ ap refusedStations (c .before .fault-in .ensures ∙ ap faultIn (c .before .before .enum-told .given .1))
+    ∙ next-fault (c .before .before .before .before .before .before .before .before .args .words .now) (c .before .before .before .before .before .before .before .before .args .n) _ (c .before .before .before .before .before .before .loop .at) (c .before .before .before .before .before .before .loop .i) (c .before .before .before .before .before .before .before .before .pre .0) (c .before .before .before .before .before .before .loop .inv) (c .before .before .before .before .before .loop-test .taken) _ (c .before .before .before .before .read-station .ensures) _ (c .before .before .enum-told .given .1)
 
 cast-sizes : tie.Need-cast-sizes Inv-loop μ-loop
-cast-sizes c = let b = sized-inside (c .before .before .before .before .before .before .before .before .before .args .words .now) (c .before .before .before .before .before .before .before .before .before .args .n) _ (c .before .before .before .before .before .before .before .loop .at) (c .before .before .before .before .before .before .before .loop .i) (c .before .before .before .before .before .before .before .before .before .pre .0) (c .before .before .before .before .before .before .before .loop .inv) _ (sized-of (drop (c .before .before .before .before .before .before .before .loop .at) (c .before .before .before .before .before .before .before .before .before .args .words .now)) _ (sym (c .before .before .before .d .given .1) ∙ c .before .before .before .before .before .read-size .ensures)) in record { fits = omega arith }
+cast-sizes c = let (few, inside, inv) = next-station (c .before .before .before .before .before .before .before .args .words .now) (c .before .before .before .before .before .before .before .args .n) _ (c .before .before .before .before .before .loop .at) (c .before .before .before .before .before .loop .i) (c .before .before .before .before .before .before .before .pre .0) (c .before .before .before .before .before .loop .inv) (c .before .before .before .before .loop-test .taken) _ (c .before .before .before .read-station .ensures) _ (c .before .got .given .1) in record { fits = omega arith }
 
 mul-at : tie.Need-mul-at Inv-loop μ-loop
-mul-at c = let b = sized-inside (c .before .before .before .before .before .before .before .before .before .args .words .now) (c .before .before .before .before .before .before .before .before .before .args .n) _ (c .before .before .before .before .before .before .before .loop .at) (c .before .before .before .before .before .before .before .loop .i) (c .before .before .before .before .before .before .before .before .before .pre .0) (c .before .before .before .before .before .before .before .loop .inv) _ (sized-of (drop (c .before .before .before .before .before .before .before .loop .at) (c .before .before .before .before .before .before .before .before .before .args .words .now)) _ (sym (c .before .before .before .d .given .1) ∙ c .before .before .before .before .before .read-size .ensures)) in record { fits = omega arith }
+mul-at c = let (few, inside, inv) = next-station (c .before .before .before .before .before .before .before .args .words .now) (c .before .before .before .before .before .before .before .args .n) _ (c .before .before .before .before .before .loop .at) (c .before .before .before .before .before .loop .i) (c .before .before .before .before .before .before .before .pre .0) (c .before .before .before .before .before .loop .inv) (c .before .before .before .before .loop-test .taken) _ (c .before .before .before .read-station .ensures) _ (c .before .got .given .1) in record { fits = omega arith }
 
 add-at : tie.Need-add-at Inv-loop μ-loop
-add-at c = let b = sized-inside (c .before .before .before .before .before .before .before .before .before .args .words .now) (c .before .before .before .before .before .before .before .before .before .args .n) _ (c .before .before .before .before .before .before .before .loop .at) (c .before .before .before .before .before .before .before .loop .i) (c .before .before .before .before .before .before .before .before .before .pre .0) (c .before .before .before .before .before .before .before .loop .inv) _ (sized-of (drop (c .before .before .before .before .before .before .before .loop .at) (c .before .before .before .before .before .before .before .before .before .args .words .now)) _ (sym (c .before .before .before .d .given .1) ∙ c .before .before .before .before .before .read-size .ensures)) in record { fits = omega arith }
+add-at c = let (few, inside, inv) = next-station (c .before .before .before .before .before .before .before .args .words .now) (c .before .before .before .before .before .before .before .args .n) _ (c .before .before .before .before .before .loop .at) (c .before .before .before .before .before .loop .i) (c .before .before .before .before .before .before .before .pre .0) (c .before .before .before .before .before .loop .inv) (c .before .before .before .before .loop-test .taken) _ (c .before .before .before .read-station .ensures) _ (c .before .got .given .1) in record { fits = omega arith }
 
 add-at-2 : tie.Need-add-at-2 Inv-loop μ-loop
-add-at-2 c =
-    let b = sized-inside (c .before .before .before .before .before .before .before .before .before .args .words .now) (c .before .before .before .before .before .before .before .before .before .args .n) _ (c .before .before .before .before .before .before .before .loop .at) (c .before .before .before .before .before .before .before .loop .i) (c .before .before .before .before .before .before .before .before .before .pre .0) (c .before .before .before .before .before .before .before .loop .inv) _ (sized-of (drop (c .before .before .before .before .before .before .before .loop .at) (c .before .before .before .before .before .before .before .before .before .args .words .now)) _ (sym (c .before .before .before .d .given .1) ∙ c .before .before .before .before .before .read-size .ensures)) in
-    let e = positions-end (c .before .before .before .before .before .before .before .before .before .args .words .now) (c .before .before .before .before .before .before .before .before .before .args .n) _ (c .before .before .before .before .before .before .before .loop .at) (c .before .before .before .before .before .before .before .loop .i) (c .before .before .before .before .before .before .before .before .before .pre .0) (c .before .before .before .before .before .before .before .loop .inv) _ (b .0) (sym (c .before .positions-at .ensures) ∙ not-false _ (c .if1 .left)) in
-    record { fits = omega arith }
+add-at-2 c = let (few, inside, inv) = next-station (c .before .before .before .before .before .before .before .args .words .now) (c .before .before .before .before .before .before .before .args .n) _ (c .before .before .before .before .before .loop .at) (c .before .before .before .before .before .loop .i) (c .before .before .before .before .before .before .before .pre .0) (c .before .before .before .before .before .loop .inv) (c .before .before .before .before .loop-test .taken) _ (c .before .before .before .read-station .ensures) _ (c .before .got .given .1) in record { fits = omega arith }
 
 loop-again : tie.Need-loop-again Inv-loop μ-loop
-loop-again c =
-    stations-more (c .before .before .before .before .before .before .before .before .before .args .words .now) (c .before .before .before .before .before .before .before .before .before .args .n) _ (c .before .before .before .before .before .before .before .loop .at) (c .before .before .before .before .before .before .before .loop .i) (c .before .before .before .before .before .before .before .before .before .pre .0) (c .before .before .before .before .before .before .before .loop .inv) (c .before .before .before .before .before .before .loop-test .taken) _ (sized-of (drop (c .before .before .before .before .before .before .before .loop .at) (c .before .before .before .before .before .before .before .before .before .args .words .now)) _ (sym (c .before .before .before .d .given .1) ∙ c .before .before .before .before .before .read-size .ensures))
-    (sym (c .before .positions-at .ensures) ∙ not-false _ (c .if1 .left))
+loop-again c = next-station (c .before .before .before .before .before .before .before .args .words .now) (c .before .before .before .before .before .before .before .args .n) _ (c .before .before .before .before .before .loop .at) (c .before .before .before .before .before .loop .i) (c .before .before .before .before .before .before .before .pre .0) (c .before .before .before .before .before .loop .inv) (c .before .before .before .before .loop-test .taken) _ (c .before .before .before .read-station .ensures) _ (c .before .got .given .1) .2
 
-returns-3 : tie.Need-returns-3 Inv-loop μ-loop
-returns-3 c = stations-end (c .before .before .before .args .words .now) (c .before .before .before .args .n) _ (c .before .loop .at) (c .before .loop .i) (c .before .before .before .pre .0) (c .before .loop .inv) (c .loop-test .left)
+returns-2 : tie.Need-returns-2 Inv-loop μ-loop
+returns-2 c = stations-end (c .before .before .before .args .words .now) (c .before .before .before .args .n) _ (c .before .loop .at) (c .before .loop .i) (c .before .before .before .pre .0) (c .before .loop .inv) (c .loop-test .left)
 
 pub read-stations-spec : {M : Type 1} → statement M
 read-stations-spec =
@@ -64,15 +47,12 @@ read-stations-spec =
     Inv-loop
     μ-loop
     (λ c. stations-start _ _ (c .before .pre .1))
+    (λ c κs. c .before .loop .inv .inside)
+    (λ c. search needs)
+    (λ c. search needs)
     (λ c κs. search needs)
-    (λ c. search needs)
-    (λ c. search needs)
     (λ c κs. search needs)
     returns
-    add-positions-at
-    positions-at-requires
-    (λ c κs. search needs)
-    returns-2
     cast-sizes
     (λ c. search needs)
     (λ c. search needs)
@@ -82,4 +62,4 @@ read-stations-spec =
     (λ c. search needs)
     (λ c. search needs)
     loop-again
-    returns-3)
+    returns-2)

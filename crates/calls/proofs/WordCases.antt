@@ -1,0 +1,35 @@
+-- P1 to P7 of document 01 on words: both sides of the claim are computed from the definitions, and are the same.
+use mathlib.Core.Path.{refl}
+use Rattle.wcsp.specs.Sign.{has, full, complement, within, present, lowest}
+use Rattle.wcsp.specs.Clause.{falsifies, tautology, same, bucket}
+use Rattle.wcsp.specs.Row.{emptyWeight, addAll, weightOf, heavy}
+use Rattle.wcsp.specs.Entry.{encoded, cost, matches}
+use Rattle.wcsp.specs.Rule.{conclusions, permitted}
+use Rattle.wcsp.specs.Resolve.{nextPair, resolve}
+use Rattle.wcsp.specs.Rebuild.{rebuilt}
+use Rattle.wcsp.specs.Widening.{trimmed}
+use Rattle.fields.specs.Padding.{padded}
+use Rattle.fields.specs.Front.{headIn, headed, sizeIn, goodSizes}
+use Rattle.fields.specs.Entries.{costOf, entriesFrom}
+use Rattle.fields.specs.Assignment.{isAssignment}
+use Rattle.input.specs.Instance.{instanceFault, sizesOf, entriesOf, scanWord, scanBinding, scanCost}
+use Rattle.rows.specs.Form.{flatIn, rawsFromIn}
+use Rattle.rows.specs.Raw.{rawAt, weightIn, rowWeighs}
+use Rattle.table.specs.Raws.{rowOf}
+use Rattle.table.specs.Layout.{tableWordsIn, capacityIn}
+use Rattle.table.specs.Meaning.{tableRowsIn, ownRowsIn, tableSizes, domains}
+use Rattle.table.specs.Valid.{validTableIn, validSigns, signKinds, hasSigns}
+use Rattle.encoding.specs.Calls.{encodeCall}
+use Rattle.stepping.specs.Step.{allowed}
+use Rattle.resolution.specs.Step.{oneStep}
+use Rattle.resolution.specs.Run.{runRows}
+use Rattle.resolution.specs.Calls.{runCall}
+use Rattle.resolution.specs.Numbers.{outcomeNumber, outcomeField}
+use Rattle.assignment.specs.Calls.{planCall, tableAssignment}
+use Rattle.checker.specs.Replay.{replay, namedPair, permittedPair}
+use Rattle.checker.specs.Calls.{checkCall, claimHolds, judged}
+use Rattle.calls.specs.WordCases.{SmallFieldsOnWords, wordCases, wordsStated, wordsComputed}
+
+pub smallFieldsOnWords : SmallFieldsOnWords
+unfolding wordCases wordsStated wordsComputed runCall planCall checkCall judged claimHolds isAssignment cost matches replay namedPair permittedPair runRows oneStep allowed tableAssignment rebuilt lowest validTableIn rowWeighs validSigns signKinds hasSigns tableRowsIn ownRowsIn trimmed rawsFromIn rowOf weightIn rawAt tableSizes domains tableWordsIn flatIn encodeCall instanceFault scanWord scanBinding scanCost headIn headed sizeIn goodSizes costOf entriesFrom sizesOf entriesOf padded encoded addAll tautology same full capacityIn nextPair permitted conclusions resolve within present complement heavy emptyWeight weightOf has falsifies bucket outcomeNumber outcomeField
+smallFieldsOnWords = refl

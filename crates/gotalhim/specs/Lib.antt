@@ -1,0 +1,3 @@
+-- What the exported calls return and write to the caller's slices.
+pub mod Noted
+pub mod Exports

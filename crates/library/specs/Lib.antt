@@ -1,2 +1,0 @@
--- What the exported calls return and write to the caller's answer slice.
-pub mod Noted

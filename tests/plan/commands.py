@@ -1,0 +1,38 @@
+"""The README's first command, run as a user runs it."""
+
+import os
+import subprocess
+from pathlib import Path
+
+ROOT = Path(__file__).resolve().parents[2]
+PLAN = ROOT / "plan"
+EXAMPLES = ROOT / "examples"
+
+
+def planned(arguments, source=b"", command=PLAN, path=None):
+    """Exit status, standard output and standard error; the search path for commands may be another one."""
+    environment = dict(os.environ, PATH=path) if path else None
+    done = subprocess.run([command, *arguments], input=source, capture_output=True, cwd=ROOT, env=environment)
+    return done.returncode, done.stdout, done.stderr.decode()
+
+
+def planned_to_full(arguments):
+    """Exit status and last line of standard error where standard output takes no byte."""
+    with open("/dev/full", "wb") as full:
+        done = subprocess.run([PLAN, *arguments], stdout=full, stderr=subprocess.PIPE, cwd=ROOT)
+    return done.returncode, done.stderr.decode().splitlines()[-1]
+
+
+def tools_without(*missing):
+    """The commands that plan calls, but for these, as a dictionary of names and files."""
+    path = {name: Path(folder) / name for folder in reversed(os.get_exec_path()) if os.path.isdir(folder)
+            for name in os.listdir(folder)}
+    return {name: file for name, file in path.items() if name not in missing}
+
+
+def linked(folder, tools):
+    """A folder that has these commands alone, as a search path."""
+    folder.mkdir()
+    for name, file in tools.items():
+        (folder / name).symlink_to(file)
+    return str(folder)
