@@ -1,24 +1,35 @@
-"""What stands behind the promises in the sources: definitions for readers rest on no inner file, and every edit's old text is there once."""
+"""What stands behind the promises in the sources: definitions for readers rest on no inner one, and every edit's old text is there once."""
 
 import re
 
-from sources import ROOT
+from sources import ROOT, names_in_lines
 
-INNER = "-- Inner:"
-IMPORT = re.compile(r"^use Rattle·(\w+?)(?:·specs)?\.specs\.(\w+)\.\{", re.M)
+# The first words of a file that serves inner contracts alone, and the line of another file behind which what it has does so.
+INNER, BEHIND = "-- Inner:", "-- ---- for inner contracts"
+IMPORT = re.compile(r"^use Rattle·(\w+?)(?:·specs)?\.specs\.(\w+)\.\{([^}]*)\}", re.M)
 
 
 def name_of(path):
     return path.parts[-3], path.stem
 
 
+def parts_of(text):
+    """A file's definitions for readers, and those for inner contracts."""
+    if text.startswith(INNER):
+        return "", text
+    front, _, behind = text.partition(BEHIND)
+    return front, behind
+
+
 def inner_faults(texts):
-    """Files for readers that take a name from a file that serves inner contracts alone; texts has each file's text by crate and name."""
+    """Names for inner contracts on which definitions for readers rest; texts has each file's text by crate and name."""
+    inner = {name: names_in_lines(parts_of(text)[1].split("\n")) for name, text in texts.items()}
     for name, text in sorted(texts.items()):
-        if not text.startswith(INNER):
-            for taken in IMPORT.findall(text):
-                if texts.get(taken, "").startswith(INNER):
-                    yield f"crates/{name[0]}/specs/{name[1]}.antt rests on the inner file {taken[1]} of {taken[0]}"
+        readers = re.sub(r"^use .*$|--.*$", "", parts_of(text)[0], flags=re.M)
+        for crate, file, names in IMPORT.findall(text):
+            for taken in inner.get((crate, file), set()) & {part.strip() for part in names.split(",")}:
+                if re.search(rf"(?<![\w-]){re.escape(taken)}(?![\w-])", readers):
+                    yield f"crates/{name[0]}/specs/{name[1]}.antt rests on {taken}, which is for inner contracts, of {crate}"
 
 
 def edit_faults(edit, crate):

@@ -35,9 +35,13 @@ def lines_of(path):
 
 
 def names_in_logic(path):
+    return names_in_lines(lines_of(path))
+
+
+def names_in_lines(lines):
     """Definitions, records, data, fields and constructors of a spec or proof, by the form of their first line."""
     names = set()
-    for line in lines_of(path):
+    for line in lines:
         line = line.split("--")[0]
         made, signed = TYPE.match(line), SIGNATURE.match(line + " ")
         if made:

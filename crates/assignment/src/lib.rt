@@ -69,7 +69,7 @@ fn rebuild(t: &[u32], shape: Shape, target: &mut [u8])
 
 // Plan: 9, 10, 13; else the assignment in the first n bytes, the rest of the target kept.
 pub fn plan(t: &[u32], target: &mut [u8]) -> u32
-    ensures { λ r. ⌜ record { number = r; target = now (target .exit) } ≡ planCall (now (t .entry)) (now (target .entry)) ⌝ }
+    ensures returned { λ r. ⌜ record { number = r; target = now (target .exit) } ≡ planCall (now (t .entry)) (now (target .entry)) ⌝ }
 {
     let checked = table::check(t);
     let Checked::Table(shape) = checked else {

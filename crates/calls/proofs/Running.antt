@@ -1,6 +1,6 @@
 -- A run on rows that keep sizes and entries: the words it makes are those of steps on the next pair whose rows fit, and it ends with no pair left,
 -- at its limit, or short of its limit before a step that lacks room. By induction on the steps that it may still make.
-use Prim.Native.Nat.{ℕ, zero, suc, _<_}
+use Prim.Native.Nat.{ℕ, zero, suc}
 use native.Mathlib.Omega.{arith}
 use mathlib.Core.Path.{_≡_, refl, sym, ap, _∙_}
 use mathlib.Core.Bool.{Bool, true, false, cond}
@@ -16,27 +16,22 @@ use Rattle.wcsp.proofs.NextPair.{next-permitted}
 use Rattle.fields.specs.Entries.{Entries}
 use Rattle.stepping.specs.Step.{Stepping, refusing, stepsTo, pairWord}
 use Rattle.resolution.specs.Step.{onPair, oneStep}
-use Rattle.resolution.specs.declared.Outcome.{Outcome}
-use Rattle.resolution.specs.declared.Outcome.the-variants.{Done, Paused, Refused}
+use Rattle.resolution.specs.declared.Outcome.the-variants.{Done, Refused}
 use Rattle.resolution.specs.Run.{Ran, after, atLimit, runRows}
+use Rattle.resolution.specs.Numbers.{outcomeNumber, outcomeField}
 use Rattle.resolution.proofs.Stepped.{no-step}
 use Rattle.checker.proofs.Replaying.{Left, allowed-room}
+use Rattle.calls.specs.Demand.{RunEnds, noneLeft, limitMet, noRoom}
 use Rattle.calls.proofs.Reaching.{Reaches, still, onward, next-left}
-
--- how a run of n steps out of k may have ended on these rows
-pub data Ends (ds : List ℕ) (cap k n : ℕ) (rs : List Row) : Outcome → Type 0 where
-  noneLeft : nextPair ds rs ≡ none → Ends ds cap k n rs Done
-  limitMet : n ≡ k → (pr : Pair) → nextPair ds rs ≡ some pr → Ends ds cap k n rs Paused
-  noRoom : n < k → (pr : Pair) → nextPair ds rs ≡ some pr → cap < length (resolve ds pr rs) → Ends ds cap k n rs (Refused 12)
 
 pub record Runs (ds : List ℕ) (cap k : ℕ) (rs : List Row) (before : List ℕ) (ran : Ran) : Type 0 where
   pub words : List ℕ
   pub made : ran .made ≡ before ++ words
   pub reaches : Reaches ds cap rs words (ran .rows)
-  pub ends : Ends ds cap k (length words) (ran .rows) (ran .outcome)
+  pub ends : RunEnds ds cap k (length words) (ran .rows) (outcomeNumber (ran .outcome)) (outcomeField (ran .outcome))
 
 -- one step more in front
-later : {ds : List ℕ} {cap k n : ℕ} {rs : List Row} {e : Outcome} → Ends ds cap k n rs e → Ends ds cap (suc k) (suc n) rs e
+later : {ds : List ℕ} {cap k n a b : ℕ} {rs : List Row} → RunEnds ds cap k n rs a b → RunEnds ds cap (suc k) (suc n) rs a b
 later (noneLeft x) = noneLeft x
 later (limitMet l pr x) = limitMet (ap suc l) pr x
 later (noRoom l pr x f) = noRoom (omega arith) pr x f
@@ -50,7 +45,7 @@ module _ {ds : List ℕ} {es : List Entry} (n : Entries ds 0 es) (cap : ℕ) whe
 
   pub run-runs : (k : ℕ) (rs : List Row) (before : List ℕ) → Left ds es cap rs
       → Runs ds cap k rs before (runRows ds cap k rs before)
-  unfolding runRows after atLimit
+  unfolding runRows after atLimit outcomeNumber outcomeField
   run-runs zero rs before l = go (nextPair ds rs) refl
     where
       go : (o : Option Pair) → nextPair ds rs ≡ o → Runs ds cap 0 rs before (atLimit rs before o)

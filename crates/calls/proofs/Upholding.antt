@@ -20,36 +20,27 @@ use Rattle.table.specs.Layout.{capacity, tableWords}
 use Rattle.table.specs.Meaning.{ownRows}
 use Rattle.table.proofs.Own.{Held}
 use Rattle.stepping.specs.Step.{Stepping, refusing, stepsTo, pairWord}
-use Rattle.resolution.specs.declared.Outcome.{Outcome}
 use Rattle.resolution.specs.Calls.{stepReturns, stepCall, runCall}
-use Rattle.resolution.specs.Numbers.{stepNumber, stepFields, outcomeNumber, outcomeField, runNumber}
+use Rattle.resolution.specs.Numbers.{stepNumber, stepFields, outcomeField, runNumber}
 use Rattle.checker.specs.Theorems.{Best}
 use Rattle.checker.proofs.Encoded.{GoodEncoding, coded}
 use Rattle.checker.proofs.Kept.{Takes, keeps-below}
 use Rattle.checker.proofs.Replaying.{Left, left-held}
 use Rattle.checker.proofs.Claims.{coded-takes, encoded-left}
 use Rattle.calls.specs.Calls.{Call, afterCalls, started}
-use Rattle.calls.specs.Demand.{StepGives, RunEnds, Upheld, UpheldFrom, Demand3}
+use Rattle.calls.specs.Demand.{StepGives, RunEnds, noneLeft, limitMet, noRoom, Upheld, UpheldFrom, Demand3}
 use Rattle.calls.proofs.Reaching.{reaches-derives, reaches-steps, reaches-left}
 use Rattle.calls.proofs.Held.{held-rows, held-run, plan-short, plan-early, plan-written}
-use Rattle.calls.proofs.Running.{Ends, noneLeft, limitMet, noRoom}
 use Rattle.calls.proofs.Moving.{Moved, step-done, step-left, ran, ran-runs, run-table, moved-left, moved-held, reached}
 
--- what a run's ending says, in the words of the demand
-ends-run : {ds : List ℕ} {cap most n : ℕ} {rs : List Row} {e : Outcome} → Ends ds cap most n rs e → RunEnds ds cap most n rs e
-unfolding outcomeNumber
-ends-run (noneLeft e) = e
-ends-run (limitMet l pr e) = (l, (pr, e))
-ends-run (noRoom l pr e f) = (refl, l, (pr, e, f))
+-- ---- what a run's ending says of its number and its field
 
-ends-number : {ds : List ℕ} {cap most n : ℕ} {rs : List Row} {e : Outcome} → Ends ds cap most n rs e → (outcomeNumber e ≡ 0) ⊎ (outcomeNumber e ≡ 12)
-unfolding outcomeNumber
+ends-number : {ds : List ℕ} {cap most n a b : ℕ} {rs : List Row} → RunEnds ds cap most n rs a b → (a ≡ 0) ⊎ (a ≡ 12)
 ends-number (noneLeft e) = inl refl
 ends-number (limitMet l pr e) = inl refl
 ends-number (noRoom l pr e f) = inr refl
 
-ends-done : {ds : List ℕ} {cap most n : ℕ} {rs : List Row} {e : Outcome} → Ends ds cap most n rs e → (outcomeField e ≡ 0) ↔ (nextPair ds rs ≡ none)
-unfolding outcomeField
+ends-done : {ds : List ℕ} {cap most n a b : ℕ} {rs : List Row} → RunEnds ds cap most n rs a b → (b ≡ 0) ↔ (nextPair ds rs ≡ none)
 ends-done (noneLeft e) = (λ z. e, λ z. refl)
 ends-done (limitMet l pr e) = (λ (z : _≡_ {A = ℕ} 1 0). absurd (omega arith), λ f. absurd (let z : _≡_ {A = ℕ} 0 1 = cc in omega arith))
 ends-done (noRoom l pr e f) = (λ (z : _≡_ {A = ℕ} 2 0). absurd (omega arith), λ g. absurd (let z : _≡_ {A = ℕ} 0 1 = cc in omega arith))
@@ -124,11 +115,11 @@ module _ {len : ℕ} {ds : List ℕ} {es : List Entry} (a : Takes len ds es) whe
       after-run = left-held a (reaches-left l (ran-runs a l h limit slice .reaches)) (run-table a l h limit slice) .rows
 
       run-ends : let r = runCall t′ limit slice in
-          RunEnds ds cap (min limit (length slice)) (r .answer .steps) (ownRows (r .table)) (r .answer .outcome)
+          RunEnds ds cap (min limit (length slice)) (r .answer .steps) (ownRows (r .table)) (runNumber (r .answer)) (outcomeField (r .answer .outcome))
       run-ends =
           let r = ran-runs a l h limit slice in
           let n : length (ran len ds rs limit slice .made) ≡ length (r .words) = ap length (r .made) in
-          rw (after-run, held-run h limit slice, n) (ends-run (r .ends))
+          rw (after-run, held-run h limit slice, n) (r .ends)
 
       run-bound : let r = runCall t′ limit slice in r .answer .bound ≡ emptyWeight (length ds) (ownRows (r .table))
       run-bound = rw (after-run, held-run h limit slice)

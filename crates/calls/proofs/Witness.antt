@@ -12,7 +12,8 @@ use Rattle.fields.specs.Padding.{padded}
 use Rattle.fields.specs.Front.{headIn, headed, sizeIn, goodSizes}
 use Rattle.fields.specs.Entries.{costOf, entriesFrom}
 use Rattle.fields.specs.Assignment.{isAssignment}
-use Rattle.input.specs.Instance.{instanceFault, sizesOf, entriesOf, scanWord, scanBinding, scanCost}
+use Rattle.entries.specs.Entries.{scanWord, scanBinding, scanCost}
+use Rattle.input.specs.Instance.{instanceFault, sizesOf, entriesOf}
 use Rattle.rows.specs.Form.{flatIn, rawsFromIn}
 use Rattle.rows.specs.Raw.{rawAt, weightIn, rowWeighs}
 use Rattle.table.specs.Raws.{rowOf}
@@ -24,6 +25,7 @@ use Rattle.stepping.specs.Step.{allowed}
 use Rattle.resolution.specs.Step.{oneStep}
 use Rattle.resolution.specs.Run.{runRows}
 use Rattle.resolution.specs.Calls.{stepCall, runCall}
+use Rattle.resolution.specs.Numbers.{outcomeNumber, outcomeField}
 use Rattle.assignment.specs.Calls.{planCall, tableAssignment}
 use Rattle.checker.specs.Replay.{replay, namedPair, permittedPair}
 use Rattle.checker.specs.Calls.{checkCall, claimHolds, judged}
@@ -32,15 +34,15 @@ use Rattle.calls.specs.Driver.{driveAll}
 use Rattle.calls.specs.Witness.{Witnesses}
 
 pub witnesses : Witnesses
-unfolding driveAll afterCall afterCalls stepCall runCall planCall checkCall judged claimHolds isAssignment cost matches replay namedPair permittedPair runRows oneStep allowed tableAssignment rebuilt lowest validTableIn rowWeighs validSigns signKinds hasSigns tableRowsIn ownRowsIn trimmed rawsFromIn rowOf weightIn rawAt tableSizes domains tableWordsIn flatIn encodeCall instanceFault scanWord scanBinding scanCost headIn headed sizeIn goodSizes costOf entriesFrom sizesOf entriesOf padded encoded addAll tautology same full capacityIn nextPair permitted conclusions resolve within present complement heavy emptyWeight weightOf has falsifies bucket
+unfolding outcomeNumber outcomeField driveAll afterCall afterCalls stepCall runCall planCall checkCall judged claimHolds isAssignment cost matches replay namedPair permittedPair runRows oneStep allowed tableAssignment rebuilt lowest validTableIn rowWeighs validSigns signKinds hasSigns tableRowsIn ownRowsIn trimmed rawsFromIn rowOf weightIn rawAt tableSizes domains tableWordsIn flatIn encodeCall instanceFault scanWord scanBinding scanCost headIn headed sizeIn goodSizes costOf entriesFrom sizesOf entriesOf padded encoded addAll tautology same full capacityIn nextPair permitted conclusions resolve within present complement heavy emptyWeight weightOf has falsifies bucket
 witnesses =
     record {
       encodes = refl;
       left = refl;
       ends = refl;
       derives = refl;
-      paused = refl;
-      full = refl;
+      paused = (refl, refl);
+      full = (refl, refl);
       early = refl;
       short = refl;
       refused = refl;

@@ -12,7 +12,8 @@ use Rattle.fields.specs.Padding.{padded}
 use Rattle.fields.specs.Front.{headIn, headed, sizeIn, goodSizes}
 use Rattle.fields.specs.Entries.{costOf, entriesFrom}
 use Rattle.fields.specs.Assignment.{isAssignment}
-use Rattle.input.specs.Instance.{instanceFault, sizesOf, entriesOf, scanWord, scanBinding, scanCost}
+use Rattle.entries.specs.Entries.{scanWord, scanBinding, scanCost}
+use Rattle.input.specs.Instance.{instanceFault, sizesOf, entriesOf}
 use Rattle.rows.specs.Form.{flatIn, rawsFromIn}
 use Rattle.rows.specs.Raw.{rawAt, weightIn, rowWeighs}
 use Rattle.table.specs.Raws.{rowOf}

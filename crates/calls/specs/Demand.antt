@@ -19,9 +19,8 @@ use Rattle.table.specs.Meaning.{ownRows}
 use Rattle.table.specs.Valid.{validTable}
 use Rattle.encoding.specs.Calls.{encodedRows, encodeCall}
 use Rattle.stepping.specs.Step.{pairWord}
-use Rattle.resolution.specs.declared.Outcome.{Outcome}
 use Rattle.resolution.specs.Calls.{stepCall, runCall}
-use Rattle.resolution.specs.Numbers.{stepNumber, stepFields, outcomeNumber, outcomeField, runNumber}
+use Rattle.resolution.specs.Numbers.{stepNumber, stepFields, outcomeField, runNumber}
 use Rattle.assignment.specs.Calls.{planCall}
 use Rattle.checker.specs.Theorems.{Best}
 use Rattle.calls.specs.Calls.{Call, started, afterCalls, Derives}
@@ -33,15 +32,17 @@ room ds t = capacity (length t) (length ds)
 -- what a step call on t gives: the paper's number and fields of its answer, and the table
 abbrev pub StepGives : List ℕ → ℕ → List ℕ → List ℕ → Type 0
 StepGives t number fields table =
-    (stepNumber (stepCall t .answer) ≡ number) × (stepFields (stepCall t .answer) ≡ fields) × (stepCall t .table ≡ table)
+    let c = stepCall t in
+    (stepNumber (c .answer) ≡ number) × (stepFields (c .answer) ≡ fields) × (c .table ≡ table)
 
--- how a further run on rows over these sizes ends: with no pair left; at its limit or the end of its slice with a pair left; or by 12, with steps
--- still to make and a pair left whose finished step needs more rows than the capacity. Never by another number.
-abbrev pub RunEnds : List ℕ → ℕ → ℕ → ℕ → List Row → Outcome → Type 0
-RunEnds ds cap most steps rs Outcome.Done = nextPair ds rs ≡ none
-RunEnds ds cap most steps rs Outcome.Paused = (steps ≡ most) × ((pr : Pair) × (nextPair ds rs ≡ some pr))
-RunEnds ds cap most steps rs (Outcome.Refused k) =
-    (outcomeNumber (Outcome.Refused k) ≡ 12) × (steps < most) × ((pr : Pair) × (nextPair ds rs ≡ some pr) × (cap < length (resolve ds pr rs)))
+-- how a further run on rows over these sizes ends, by the paper's number and the outcome field, and by no others
+pub data RunEnds (ds : List ℕ) (cap most steps : ℕ) (rs : List Row) : (number field : ℕ) → Type 0 where
+  -- done: no pair is left
+  noneLeft : nextPair ds rs ≡ none → RunEnds ds cap most steps rs 0 0
+  -- paused: at its limit or the end of its slice, with a pair left
+  limitMet : steps ≡ most → (pr : Pair) → nextPair ds rs ≡ some pr → RunEnds ds cap most steps rs 0 1
+  -- 12: with steps still to make, and a pair left whose finished step needs more rows than the capacity
+  noRoom : steps < most → (pr : Pair) → nextPair ds rs ≡ some pr → cap < length (resolve ds pr rs) → RunEnds ds cap most steps rs 12 2
 
 -- what holds of the table t′ for these sizes and entries, after steps with the words ws that started from these rows
 pub record Upheld (ds : List ℕ) (es : List Entry) (from : List Row) (t′ ws : List ℕ) : Type 0 where
@@ -68,15 +69,16 @@ pub record Upheld (ds : List ℕ) (es : List Entry) (from : List Row) (t′ ws :
   -- a further run: only the end, its limit, its slice or 12 stops it; its bound is the empty row's weight in the table it leaves
   pub run : (limit : ℕ) (slice : List ℕ)
       → let r = runCall t′ limit slice in
-      RunEnds ds (room ds t′) (min limit (length slice)) (r .answer .steps) (ownRows (r .table)) (r .answer .outcome)
+      RunEnds ds (room ds t′) (min limit (length slice)) (r .answer .steps) (ownRows (r .table)) (runNumber (r .answer))
+      (outcomeField (r .answer .outcome))
   pub runBound : (limit : ℕ) (slice : List ℕ)
       → let r = runCall t′ limit slice in
       r .answer .bound ≡ emptyWeight (length ds) (ownRows (r .table))
-  -- its outcome field is 0, done, exactly if no pair is left in the table it leaves
+  -- so its outcome field is 0, done, exactly if no pair is left in the table it leaves
   pub runDone : (limit : ℕ) (slice : List ℕ)
       → let r = runCall t′ limit slice in
       (outcomeField (r .answer .outcome) ≡ 0) ↔ (nextPair ds (ownRows (r .table)) ≡ none)
-  -- never 9 and never 11
+  -- and its number is never 9 and never 11
   pub runNumbers : (limit : ℕ) (slice : List ℕ)
       → let k = runNumber (runCall t′ limit slice .answer) in
       (k ≡ 0) ⊎ (k ≡ 12)

@@ -13,8 +13,8 @@ use Rattle.rows.specs.Raw.{rowWidth}
 use Rattle.table.specs.Layout.{rowsAt}
 use Rattle.table.specs.Meaning.{ownRows}
 use Rattle.encoding.specs.Calls.{encodeCall}
-use Rattle.resolution.specs.declared.Outcome.{Outcome}
 use Rattle.resolution.specs.Calls.{runCall}
+use Rattle.resolution.specs.Numbers.{runNumber, runFields}
 use Rattle.assignment.specs.Calls.{planCall}
 use Rattle.checker.specs.Calls.{checkCall}
 use Rattle.calls.specs.Calls.{Call, runAsked, planAsked, started, afterCalls}
@@ -40,6 +40,10 @@ p1Driven = driveAll p1 lent p1Asks (5 ∷ 6 ∷ []) (9 ∷ 8 ∷ [])
 abbrev pub crowded : List ℕ
 crowded = headWord 2 ∷ sizeWord 2 ∷ sizeWord 2 ∷ bindingWord 0 0 ∷ costWord 3 ∷ bindingWord 0 1 ∷ bindingWord 1 0 ∷ costWord 1 ∷ []
 
+-- what a run gives: the paper's number of its answer, and its outcome, steps and bound
+abbrev pub RunGives : List ℕ → ℕ → List ℕ → ℕ → List ℕ → Type 0
+RunGives t limit slice number fields = let a = runCall t limit slice .answer in (runNumber a ≡ number) × (runFields a ≡ fields)
+
 pub record Witnesses : Type 0 where
   -- demand 3: the encoding is good; a pair is left then, and none after the calls
   pub encodes : encodeCall p1 lent .answer ≡ good 2
@@ -47,8 +51,8 @@ pub record Witnesses : Type 0 where
   pub ends : nextPair (sizesOf p1) (ownRows (afterCalls (started p1 lent) p1Calls .table)) ≡ none
   pub derives : afterCalls (started p1 lent) p1Calls .derivation ≡ stepWord 0 0 1 ∷ []
   -- a run paused, and one stopped by 12
-  pub paused : runCall (encodeCall p1 lent .table) 5 [] .answer ≡ record { outcome = Outcome.Paused; steps = 0; bound = 0 }
-  pub full : runCall (encodeCall crowded lent .table) 5 (5 ∷ 6 ∷ []) .answer ≡ record { outcome = Outcome.Refused 12; steps = 0; bound = 0 }
+  pub paused : RunGives (encodeCall p1 lent .table) 5 [] 0 (1 ∷ 0 ∷ 0 ∷ [])
+  pub full : RunGives (encodeCall crowded lent .table) 5 (5 ∷ 6 ∷ []) 12 (2 ∷ 0 ∷ 0 ∷ [])
   -- a plan call refused: 13, 10
   pub early : planCall (encodeCall p1 lent .table) (9 ∷ 8 ∷ []) ≡ record { number = 13; target = 9 ∷ 8 ∷ [] }
   pub short : planCall (encodeCall p1 lent .table) [] ≡ record { number = 10; target = [] }

@@ -74,7 +74,7 @@ pub fn drive(
     out: &mut [u32],
     target: &mut [u8],
 ) -> Driven
-    ensures { λ r. ⌜ Drives (now (instance .entry)) (now (t .entry)) (now (calls .entry)) (now (out .entry)) (now (target .entry)) (record { answer = r; table = now (t .exit); out = now (out .exit); target = now (target .exit) }) ⌝ }
+    ensures driven { λ r. ⌜ Drives (now (instance .entry)) (now (t .entry)) (now (calls .entry)) (now (out .entry)) (now (target .entry)) (record { answer = r; table = now (t .exit); out = now (out .exit); target = now (target .exit) }) ⌝ }
 {
     let coded = encoding::encode(instance, t);
     if coded.number != 0 {

@@ -10,14 +10,14 @@ use Rattle.fields.specs.Front.{headIn}
 use Rattle.fields.specs.Entries.{FieldSizes, Entries}
 use Rattle.fields.proofs.Fronts.{head-is}
 use Rattle.input.specs.Instance.{instanceFault, sizesOf, entriesOf}
-use Rattle.input.proofs.Acceptance.{accepted-instance}
+use Rattle.input.proofs.Acceptance.{faultlessIsAccepted}
 
 module _ (inst : List ℕ) (e : instanceFault inst ≡ 0) where
   pub accepted-sizes : FieldSizes (sizesOf inst)
-  accepted-sizes = accepted-instance inst e .sizes
+  accepted-sizes = faultlessIsAccepted inst e .sizes
 
   pub accepted-entries : Entries (sizesOf inst) 0 (entriesOf inst)
-  accepted-entries = accepted-instance inst e .entries
+  accepted-entries = faultlessIsAccepted inst e .entries
 
 -- a head with the number of these sizes is one
 pub head-given : {ds : List ℕ} → FieldSizes ds → headIn (headWord (length ds)) ≡ some (length ds)

@@ -18,13 +18,13 @@ module _ (inst plan : List ℕ) (accepted : instanceFault inst ≡ 0) (priced : 
   unfolding costCall
   price = rw (eq-eqb (instanceFault inst) 0 accepted) at e
 
-  no-plan : (priced .number ≡ 0 → ⊥) → isAssignment (sizesOf inst) plan ≡ false
+  no-plan : (priced .number ≡ 0 → ⊥) → (isAssignment (sizesOf inst) plan ≡ false) × (priced .number ≡ 7)
   no-plan n = go _ refl (ap (λ a. a .number) price)
     where
       go : (b : Bool) → isAssignment (sizesOf inst) plan ≡ b → priced .number ≡ cond b (good (cost (entriesOf inst) plan)) (refused 7) .number
-          → b ≡ false
+          → (b ≡ false) × (priced .number ≡ 7)
       go true p q = absurd (n q)
-      go false p q = refl
+      go false p q = (refl, q)
 
   a-plan : priced .number ≡ 0 → (isAssignment (sizesOf inst) plan ≡ true) × (priced .value ≡ cost (entriesOf inst) plan)
   a-plan n = go _ refl price
@@ -39,9 +39,9 @@ module _ (inst plan : List ℕ) (accepted : instanceFault inst ≡ 0) (priced : 
     abbrev Judges : ℕ → Type 0
     Judges number = number ≡ cond (claimHolds inst plan claimed weight) 0 7
 
-    pub claim-unplanned : (priced .number ≡ 0 → ⊥) → Judges 7
+    pub claim-unplanned : (priced .number ≡ 0 → ⊥) → Judges (priced .number)
     unfolding claimHolds
-    claim-unplanned n = rw (no-plan n)
+    claim-unplanned n = let (none, seven) = no-plan n in rw (none, seven)
 
     module _ (n : priced .number ≡ 0) where
       pub claim-other-cost : (claimed ≡ priced .value → ⊥) → Judges 7

@@ -1,52 +1,52 @@
--- The numbers of a check: an instance's faults are at most 5, so the encoding never answers 11; nor does a replay, and the claim answers 0 or 7.
+-- The numbers of a check: those of the encoding, of a replay, and of the claim, which answers 0 or 7.
 use Prim.Native.Nat.{ℕ}
 use native.Mathlib.Omega.{arith}
-use mathlib.Core.Path.{_≡_, refl, ap}
+use mathlib.Core.Path.{_≡_, refl}
 use mathlib.Core.Bool.{Bool, true, false, cond}
 use mathlib.Core.List.{List}
 use lib.ListN.{length}
 use lib.Dec.{eqb}
-use borrow.Author.Tests.{eqb-true}
+use borrow.Author.Tests.{eqb-true, eqb-false}
 use Rattle.wcsp.specs.Row.{emptyWeight}
-use Rattle.input.specs.Instance.{sizesOf}
+use Rattle.input.specs.Instance.{instanceFault, sizesOf}
 use Rattle.input.proofs.Faults.{instance-small}
 use Rattle.encoding.specs.Calls.{encodeCall}
 use Rattle.checker.specs.Replay.{Replayed}
 use Rattle.checker.specs.Calls.{claimHolds, judged, checkCall}
-use Rattle.checker.specs.Theorems.{NeverTooHeavy}
+use Rattle.checker.specs.Theorems.{CheckNumber, success, fault, claimFails, tooShort, tooMany, CheckNumbers}
 use Rattle.checker.proofs.Encoded.{coded, encodes, encode-tests}
 use Rattle.checker.proofs.Claims.{replayed, replayed-ended}
 
--- ---- the check
-
 module _ (inst t : List ℕ) where
-  never-so : (a b c : Bool) → encodeCall inst t ≡ encodes inst t a b c → encodeCall inst t .answer .number ≡ 11 → ⊥
+  encodes-number : (a b c : Bool) → eqb (instanceFault inst) 0 ≡ a → CheckNumber (encodes inst t a b c .answer .number)
   unfolding encodes
-  never-so true true c e h = omega (arith, ap (λ r. r .answer .number) e)
-  never-so true false true e h = omega (arith, ap (λ r. r .answer .number) e)
-  never-so true false false e h = omega (arith, ap (λ r. r .answer .number) e)
-  never-so false b c e h = omega (arith, ap (λ r. r .answer .number) e, instance-small inst)
+  encodes-number true true c e = tooShort
+  encodes-number true false true e = tooMany
+  encodes-number true false false e = success
+  encodes-number false b c e =
+      let some = eqb-false (instanceFault inst) 0 e in
+      fault (instanceFault inst) (omega arith) (instance-small inst)
 
-  encode-never : encodeCall inst t .answer .number ≡ 11 → ⊥
-  encode-never h = never-so _ _ _ (encode-tests inst t) h
+  encode-number : CheckNumber (encodeCall inst t .answer .number)
+  encode-number = rw (encode-tests inst t) (encodes-number _ _ _ refl)
 
-pub neverTooHeavy : NeverTooHeavy
+pub checkNumbers : CheckNumbers
 unfolding checkCall judged
-neverTooHeavy inst derivation plan claimed t e = coding (eqb (encodeCall inst t .answer .number) 0) refl e
+checkNumbers inst derivation plan claimed t = coding (eqb (encodeCall inst t .answer .number) 0) refl
   where
     done : Replayed
     done = replayed inst t derivation
 
-    judging : (done .number ≡ 11 → ⊥) → (a b : Bool) → cond a (cond b 0 7) (done .number) ≡ 11 → ⊥
-    judging f true true h = omega arith
-    judging f true false h = omega arith
-    judging f false b h = f h
+    judging : CheckNumber (done .number) → (a b : Bool) → CheckNumber (cond a (cond b 0 7) (done .number))
+    judging f true true = success
+    judging f true false = claimFails
+    judging f false b = f
 
     coding : (a : Bool) → eqb (encodeCall inst t .answer .number) 0 ≡ a
-        → cond a (judged inst plan claimed (length t) done)
-        (record { answer = record { number = encodeCall inst t .answer .number; steps = 0 }; table = t }) .answer .number
-        ≡ 11 → ⊥
-    coding true h n =
+        → CheckNumber
+        (cond a (judged inst plan claimed (length t) done)
+        (record { answer = record { number = encodeCall inst t .answer .number; steps = 0 }; table = t }) .answer .number)
+    coding true h =
         let c = coded inst t (eqb-true (encodeCall inst t .answer .number) 0 h) in
-        judging (replayed-ended inst t c derivation .never) (eqb (done .number) 0) (claimHolds inst plan claimed (emptyWeight (length (sizesOf inst)) (done .rows))) n
-    coding false h n = encode-never inst t n
+        judging (replayed-ended inst t c derivation .number) (eqb (done .number) 0) (claimHolds inst plan claimed (emptyWeight (length (sizesOf inst)) (done .rows)))
+    coding false h = encode-number inst t

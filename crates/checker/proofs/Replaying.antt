@@ -1,5 +1,5 @@
 -- A replay goes on only by permitted steps whose rows fit, so whatever step words it gets, the rows that it leaves keep sizes and entries and fit;
--- and since no weight of such rows is too great, it is never stopped by 11.
+-- and since no weight of such rows is too great, it is stopped by 6 or 12 alone.
 use Prim.Native.Nat.{ℕ, suc, _≤_}
 use native.Mathlib.Omega.{arith}
 use mathlib.Core.Path.{_≡_, refl, sym, ap, subst}
@@ -20,6 +20,7 @@ use Rattle.table.specs.Layout.{capacity, tableWords}
 use Rattle.table.proofs.Own.{Held, held}
 use Rattle.stepping.specs.Step.{Stepping, refusing, stepsTo, allowed}
 use Rattle.checker.specs.Replay.{permittedPair, namedPair, replayOn, replayWord, Replayed, replayNext, replay}
+use Rattle.checker.specs.Theorems.{CheckNumber, success, notPermitted, tooMany}
 use Rattle.checker.proofs.Kept.{Takes, Keeps, step-keeps, keeps-light, keeps-holdable}
 
 -- ---- the pair that a word names
@@ -123,13 +124,13 @@ pub left-held : {len : ℕ} {ds : List ℕ} {es : List Entry} → Takes len ds e
     → t ≡ tableWords len ds rs → Held t len ds rs
 left-held {len} {ds} a {t} {rs} l e = held t len ds rs (keeps-holdable (l .keeps) a (l .fits)) e
 
--- what a replay comes to: rows that keep sizes and entries and fit, and a number other than 11
+-- what a replay comes to: rows that keep sizes and entries and fit, and a number of a check
 pub record Ended (ds : List ℕ) (es : List Entry) (cap : ℕ) (done : Replayed) : Type 0 where
   pub left : Left ds es cap (done .rows)
-  pub never : done .number ≡ 11 → ⊥
+  pub number : CheckNumber (done .number)
 
 data WordView (ds : List ℕ) (cap : ℕ) (rs : List Row) : Stepping → Type 0 where
-  refused : {k : ℕ} → (k ≡ 11 → ⊥) → WordView ds cap rs (refusing k)
+  refused : {k : ℕ} → CheckNumber k → WordView ds cap rs (refusing k)
   made : {pr : Pair} → MayResolve ds rs pr → length (resolve ds pr rs) ≤ cap → WordView ds cap rs (stepsTo pr (resolve ds pr rs))
 
 module _ {ds : List ℕ} {es : List Entry} (n : Entries ds 0 es) (cap : ℕ) where
@@ -151,7 +152,7 @@ module _ {ds : List ℕ} {es : List Entry} (n : Entries ds 0 es) (cap : ℕ) whe
         rs′ = resolve ds pr rs
 
         go : (b : Bool) → ltb cap (length rs′) ≡ b → WordView ds cap rs (cond b (refusing 12) (stepsTo pr rs′))
-        go true e = refused (λ (z : _≡_ {A = ℕ} 12 11). omega arith)
+        go true e = refused tooMany
         go false e = made m (ltb-false cap (length rs′) e)
 
     word-view : (w : ℕ) → WordView ds cap rs (replayWord ds cap rs w)
@@ -160,14 +161,14 @@ module _ {ds : List ℕ} {es : List Entry} (n : Entries ds 0 es) (cap : ℕ) whe
       where
         go : (o : Option Pair) → PairView ds rs o
             → WordView ds cap rs (replayOn ds cap rs o)
-        go none noPair = refused (λ (z : _≡_ {A = ℕ} 6 11). omega arith)
+        go none noPair = refused notPermitted
         go (some pr) (onPair m) = allowed-view pr m
 
   -- ---- the whole replay
 
   pub replay-ended : (ws : List ℕ) (rs : List Row) (k : ℕ) → Left ds es cap rs → Ended ds es cap (replay ds cap rs k ws)
   unfolding replay replayNext
-  replay-ended [] rs k l = record { left = l; never = λ (z : _≡_ {A = ℕ} 0 11). omega arith }
+  replay-ended [] rs k l = record { left = l; number = success }
   replay-ended (w ∷ ws) rs k l = go _ (word-view (l .keeps) w) (λ rs′ l′. replay-ended ws rs′ (suc k) l′)
     where
       go : (s : Stepping) → WordView ds cap rs s
@@ -175,6 +176,6 @@ module _ {ds : List ℕ} {es : List Entry} (n : Entries ds 0 es) (cap : ℕ) whe
           → Ended ds es cap
           (replayNext (λ number. record { number = number; steps = k; rows = rs })
           (λ rs′. replay ds cap rs′ (suc k) ws) s)
-      go (refusing number) (refused f) ih = record { left = l; never = f }
+      go (refusing number) (refused f) ih = record { left = l; number = f }
       go (stepsTo pr rs′) (made m f) ih =
           ih rs′ (record { keeps = step-keeps (l .keeps) pr m; fits = f })

@@ -27,7 +27,15 @@ LeftConserves = (inst derivation plan : List ℕ) (claimed : ℕ) (t p : List �
     → InRange (sizesOf inst) p
     → falsified p (ownRows (checkCall inst derivation plan claimed t .table)) ≡ cost (entriesOf inst) p
 
--- 11 never: no weight in a table from an accepted instance passes the limit, whatever step words are replayed
-abbrev pub NeverTooHeavy : Type 0
-NeverTooHeavy = (inst derivation plan : List ℕ) (claimed : ℕ) (t : List ℕ)
-    → checkCall inst derivation plan claimed t .answer .number ≡ 11 → ⊥
+-- the numbers that a check can answer: never 9, for the checker writes its table itself, and never 11, for no weight in a table from an accepted
+-- instance passes the limit, whatever step words are replayed
+pub data CheckNumber : ℕ → Type 0 where
+  success : CheckNumber 0
+  fault : (k : ℕ) → 1 ≤ k → k ≤ 5 → CheckNumber k
+  notPermitted : CheckNumber 6
+  claimFails : CheckNumber 7
+  tooShort : CheckNumber 10
+  tooMany : CheckNumber 12
+
+abbrev pub CheckNumbers : Type 0
+CheckNumbers = (inst derivation plan : List ℕ) (claimed : ℕ) (t : List ℕ) → CheckNumber (checkCall inst derivation plan claimed t .answer .number)

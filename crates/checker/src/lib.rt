@@ -110,7 +110,7 @@ fn judge(instance: &[u32], plan: &[u8], claimed: u64, t: &[u32], base: usize, co
 {
     let priced = cost::cost(instance, plan);
     if priced.number != 0 {
-        return 7;
+        return priced.number;
     }
     if claimed != priced.value {
         return 7;
@@ -129,7 +129,7 @@ pub fn check(
     claimed: u64,
     t: &mut [u32],
 ) -> CheckAnswer
-    ensures { λ r. ⌜ record { answer = r; table = now (t .exit) } ≡ checkCall (now (instance .entry)) (now (derivation .entry)) (now (plan .entry)) claimed (now (t .entry)) ⌝ }
+    ensures returned { λ r. ⌜ record { answer = r; table = now (t .exit) } ≡ checkCall (now (instance .entry)) (now (derivation .entry)) (now (plan .entry)) claimed (now (t .entry)) ⌝ }
 {
     let encoded = encoding::encode(instance, t);
     if encoded.number != 0 {

@@ -16,6 +16,8 @@ signsIn a b c d = unpacked a ++ (unpacked b ++ (unpacked c ++ unpacked d))
 unfoldable pub signsOf : Clause → List ℕ
 signsOf x = signsIn (x .a) (x .b) (x .c) (x .d)
 
+-- ---- for inner contracts
+
 -- every block holds three signs and nothing else
 pub record FitsBlocks (x : Clause) : Type 0 where
   pub a : x .a < 16777216

@@ -20,7 +20,7 @@ use Rattle.input.specs.Instance.{instanceFault, sizesOf, entriesOf}
 use Rattle.input.specs.Accepted.{Accepted}
 use Rattle.input.specs.Calls.{validateCall}
 use Rattle.input.proofs.Validating.{GoodValidated, good-validated, bad-validated}
-use Rattle.input.proofs.Acceptance.{accepted-instance}
+use Rattle.input.proofs.Acceptance.{faultlessIsAccepted}
 use Rattle.cost.specs.Costing.{costIn, matchedAfter, costFrom}
 use Rattle.cost.specs.Calls.{costCall}
 
@@ -80,7 +80,7 @@ module _ (ws plan : List ℕ) (read : Validated) (r : read ≡ validateCall ws) 
     taken = eq-eqb (instanceFault ws) 0 (known .fine)
 
     is-accepted : Accepted ws
-    is-accepted = accepted-instance ws (known .fine)
+    is-accepted = faultlessIsAccepted ws (known .fine)
 
     pub few-variables : (read .variables ≤ maxVariables) × (read .variables ≤ length (read .sizes))
     few-variables =

@@ -63,7 +63,7 @@ fn cost_from(words: &[u32], at: usize, plan: &[u8]) -> u64
 }
 
 pub fn cost(words: &[u32], plan: &[u8]) -> Answer
-    ensures { λ r. ⌜ r ≡ costCall (now (words .entry)) (now (plan .entry)) ⌝ }
+    ensures returned { λ r. ⌜ r ≡ costCall (now (words .entry)) (now (plan .entry)) ⌝ }
 {
     let read = input::validate(words);
     if read.number != 0 {

@@ -22,9 +22,10 @@ use Rattle.fields.specs.Padding.{padded, lacking}
 use Rattle.fields.proofs.Fronts.{good-long}
 use Rattle.fields.proofs.Sizes.{each-positive}
 use Rattle.fields.proofs.Padding.{padded-length, sizes-at, sizes-padded}
-use Rattle.input.specs.Instance.{goes, stops, scanBinding, scanCost, scanWord, resume, entriesFault, instanceFault, sizesOf, entriesOf}
+use Rattle.entries.specs.Entries.{goes, stops, scanBinding, scanCost, scanWord, resume, entriesFault}
+use Rattle.input.specs.Instance.{instanceFault, sizesOf, entriesOf}
 use Rattle.input.proofs.Validating.{headed-bounds, sizes-number, entries-are, instance-apart}
-use Rattle.input.proofs.Acceptance.{instance-headed, accepted-instance, passed}
+use Rattle.input.proofs.Acceptance.{instance-headed, faultlessIsAccepted, passed}
 use Rattle.rows.specs.Raw.{maxWeight}
 use Rattle.encoding.specs.Calls.{encodedRows}
 use Rattle.encoding.specs.Coding.{AllProper, costsIn, rowsTo}
@@ -119,7 +120,7 @@ known ws e =
     let (n, h) = instance-headed ws e in
     let b = headed-bounds ws n h in
     let (g, f) = passed (goodSizes n (drop 1 ws)) (instanceFault ws) (entriesFault (sizesOf ws) 0 0 (drop (n + 1) ws)) (instance-apart ws n h) e in
-    let acc = accepted-instance ws e in
+    let acc = faultlessIsAccepted ws e in
     let v : length (sizesOf ws) ≡ n = sizes-number ws n h g in
     let s : EachSize (sizesOf ws) = acc .sizes .each in
     let few : length (sizesOf ws) ≤ 12 = omega (arith, v, b .1) in

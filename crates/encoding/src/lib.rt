@@ -178,7 +178,7 @@ fn encode_entries(instance: &[u32], at: usize, t: &mut [u32], base: usize, fulls
 
 // Encode: 1 to 5, 10, 12; else the whole slice is the table of the encoding.
 pub fn encode(instance: &[u32], t: &mut [u32]) -> Answer
-    ensures { λ r. ⌜ record { answer = r; table = now (t .exit) } ≡ encodeCall (now (instance .entry)) (now (t .entry)) ⌝ }
+    ensures returned { λ r. ⌜ record { answer = r; table = now (t .exit) } ≡ encodeCall (now (instance .entry)) (now (t .entry)) ⌝ }
 {
     let read = input::validate(instance);
     let number = read.number;

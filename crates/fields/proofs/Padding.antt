@@ -1,10 +1,11 @@
 -- Twelve variables in place of n: there are twelve sizes, each from 1 to 8, the field's own in front.
 use Prim.Native.Nat.{ℕ, zero, suc, _-_, _≤_}
 use native.Mathlib.Omega.{arith}
-use mathlib.Core.Path.{_≡_}
+use mathlib.Core.Path.{_≡_, sym, ap, _∙_}
 use mathlib.Core.List.{List, _++_}
 use lib.ListN.{length, getD, take, replicate, length-append, length-replicate}
 use lib.Seq.{take-append-seam}
+use Rattle.fields.specs.Limits.{maxVariables}
 use Rattle.fields.specs.Entries.{EachSize, nilEach, consEach}
 use Rattle.fields.specs.Padding.{padded}
 
@@ -17,6 +18,13 @@ padded-length ds h = omega (arith, length-append ds (replicate (12 - length ds) 
 pub padded-front : (ds : List ℕ) (n : ℕ) → length ds ≡ n → take n (padded ds) ≡ ds
 unfolding padded
 padded-front ds n e = rw (← e) (take-append-seam ds (replicate (12 - length ds) 1))
+
+-- the sizes of the variables are the first of twelve
+pub sizes-taken : (ds sizes : List ℕ) (n : ℕ) → sizes ≡ padded ds → n ≡ length ds → take n sizes ≡ ds
+sizes-taken ds sizes n e f = rw e (padded-front ds n (sym f))
+
+pub sizes-twelve : (ds sizes : List ℕ) → sizes ≡ padded ds → length ds ≤ maxVariables → length sizes ≡ maxVariables
+sizes-twelve ds sizes e few = ap length e ∙ padded-length ds few
 
 -- ---- sizes
 

@@ -27,11 +27,14 @@ lastInput = 8
 abbrev pub firstState : ℕ
 firstState = 9
 
+abbrev pub lastState : ℕ
+lastState = 13
+
 abbrev pub fromInput : ℕ → Bool
 fromInput k = between 1 k lastInput
 
 abbrev pub fromState : ℕ → Bool
-fromState k = between firstState k 13
+fromState k = between firstState k lastState
 
 -- the order of tests: their numbers rise. This is both halves of the sentence, since every number of the input lies below
 -- every number of the state.

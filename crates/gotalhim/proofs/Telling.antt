@@ -9,7 +9,7 @@ use Rattle.resolution.specs.declared.RunAnswer.{RunAnswer}
 use Rattle.resolution.specs.Calls.{StepReturned, stepCall}
 use Rattle.resolution.specs.Numbers.{stepNumber, stepFields, outcomeField, runFields}
 use Rattle.calls.specs.Driver.{DriveReturned, Drives}
-use Rattle.gotalhim.specs.Noted.{noted}
+use Rattle.answers.specs.Noted.{noted}
 use Rattle.gotalhim.specs.Exports.{Exported, stepExport, DriveUpholds}
 
 -- number, slices and fields of whatever a call returns: `r` is what it returned, `call` its definition

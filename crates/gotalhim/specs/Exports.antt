@@ -4,7 +4,7 @@ use mathlib.Core.Path.{_≡_}
 use mathlib.Core.List.{List, [], _∷_}
 use lib.ListN.{take}
 use Rattle.cost.specs.Calls.{costCall}
-use Rattle.sheet.specs.Calls.{makeCall}
+use Rattle.making.specs.Calls.{makeCall}
 use Rattle.encoding.specs.Calls.{encodeCall}
 use Rattle.resolution.specs.Calls.{stepCall, runCall}
 use Rattle.resolution.specs.Numbers.{stepNumber, stepFields, runNumber, runFields}
@@ -12,7 +12,7 @@ use Rattle.readout.specs.Calls.{readoutCall}
 use Rattle.checker.specs.Calls.{checkCall}
 use Rattle.calls.specs.Demand.{UpheldFrom}
 use Rattle.calls.specs.Driver.{driveAll}
-use Rattle.gotalhim.specs.Noted.{noted}
+use Rattle.answers.specs.Noted.{noted}
 
 -- the number that is returned, 0 for success; the lent slices that the call may write to, as they are left, in the order of the
 -- parameters; and the answer slice, the last parameter, with the fields behind the number noted in front

@@ -1,3 +1,2 @@
 -- What the exported calls return and write to the caller's slices.
-pub mod Noted
 pub mod Exports

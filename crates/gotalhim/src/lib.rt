@@ -3,46 +3,19 @@ ghost use mathlib.Core.Path.{_≡_};
 ghost use mathlib.Core.List.{[], _∷_};
 ghost use Rattle.resolution.specs.Numbers.{outcomeNumber, outcomeField};
 ghost use Rattle.assignment.specs.Calls.{planCall};
-ghost use Rattle.gotalhim.specs.Noted.{noted};
 ghost use Rattle.gotalhim.specs.Exports.{makeExport, encodeExport, stepExport, runExport, checkExport, readoutExport, costExport, driveExport, DriveUpholds};
+use answers::note;
+use answers::note_three;
+use answers::note_two;
 use resolution::Outcome;
 use resolution::StepAnswer;
-
-// One field, if the slice has a place for it.
-fn note(answer: &mut [u64], a: u64)
-    ensures { λ r. ⌜ now (answer .exit) ≡ noted (now (answer .entry)) (a ∷ []) ⌝ }
-{
-    if 0 < answer.len() {
-        answer[0] = a;
-    }
-}
-
-// Two fields, as far as the slice goes.
-fn note_two(answer: &mut [u64], a: u64, b: u64)
-    ensures { λ r. ⌜ now (answer .exit) ≡ noted (now (answer .entry)) (a ∷ (b ∷ [])) ⌝ }
-{
-    note(answer, a);
-    if 1 < answer.len() {
-        answer[1] = b;
-    }
-}
-
-// Three fields, as far as the slice goes.
-fn note_three(answer: &mut [u64], a: u64, b: u64, c: u64)
-    ensures { λ r. ⌜ now (answer .exit) ≡ noted (now (answer .entry)) (a ∷ (b ∷ (c ∷ []))) ⌝ }
-{
-    note_two(answer, a, b);
-    if 2 < answer.len() {
-        answer[2] = c;
-    }
-}
 
 // Make an instance from a sheet. Answer: the words written.
 #[no_mangle]
 pub extern "C" fn gotalhim_make(sheet: &[u32], target: &mut [u32], answer: &mut [u64]) -> u32
-    ensures { λ r. ⌜ record { number = r; slices = now (target .exit) ∷ []; answer = now (answer .exit) } ≡ makeExport (now (sheet .entry)) (now (target .entry)) (now (answer .entry)) ⌝ }
+    ensures returned { λ r. ⌜ record { number = r; slices = now (target .exit) ∷ []; answer = now (answer .exit) } ≡ makeExport (now (sheet .entry)) (now (target .entry)) (now (answer .entry)) ⌝ }
 {
-    let made = sheet::make(sheet, target);
+    let made = making::make(sheet, target);
     note(answer, made.value);
     made.number
 }
@@ -50,7 +23,7 @@ pub extern "C" fn gotalhim_make(sheet: &[u32], target: &mut [u32], answer: &mut 
 // Encode an instance as the rows of a table. Answer: the rows.
 #[no_mangle]
 pub extern "C" fn gotalhim_encode(instance: &[u32], table: &mut [u32], answer: &mut [u64]) -> u32
-    ensures { λ r. ⌜ record { number = r; slices = now (table .exit) ∷ []; answer = now (answer .exit) } ≡ encodeExport (now (instance .entry)) (now (table .entry)) (now (answer .entry)) ⌝ }
+    ensures returned { λ r. ⌜ record { number = r; slices = now (table .exit) ∷ []; answer = now (answer .exit) } ≡ encodeExport (now (instance .entry)) (now (table .entry)) (now (answer .entry)) ⌝ }
 {
     let encoded = encoding::encode(instance, table);
     note(answer, encoded.value);
@@ -60,7 +33,7 @@ pub extern "C" fn gotalhim_encode(instance: &[u32], table: &mut [u32], answer: &
 // Make the next step in a table. Answer: 1 if no pair is left, else 0; the step word.
 #[no_mangle]
 pub extern "C" fn gotalhim_step(table: &mut [u32], answer: &mut [u64]) -> u32
-    ensures { λ r. ⌜ record { number = r; slices = now (table .exit) ∷ []; answer = now (answer .exit) } ≡ stepExport (now (table .entry)) (now (answer .entry)) ⌝ }
+    ensures returned { λ r. ⌜ record { number = r; slices = now (table .exit) ∷ []; answer = now (answer .exit) } ≡ stepExport (now (table .entry)) (now (answer .entry)) ⌝ }
 {
     let stepped = resolution::step(table);
     match stepped {
@@ -107,7 +80,7 @@ pub extern "C" fn gotalhim_run(
     derivation: &mut [u32],
     answer: &mut [u64],
 ) -> u32
-    ensures { λ r. ⌜
+    ensures returned { λ r. ⌜
         record { number = r; slices = now (table .exit) ∷ (now (derivation .exit) ∷ []); answer = now (answer .exit) }
         ≡ runExport (now (table .entry)) limit (now (derivation .entry)) (now (answer .entry))
         ⌝ }
@@ -121,7 +94,7 @@ pub extern "C" fn gotalhim_run(
 // Rebuild the assignment of a table in which no pair is left.
 #[no_mangle]
 pub extern "C" fn gotalhim_plan(table: &[u32], target: &mut [u8]) -> u32
-    ensures { λ r. ⌜ record { number = r; target = now (target .exit) } ≡ planCall (now (table .entry)) (now (target .entry)) ⌝ }
+    ensures returned { λ r. ⌜ record { number = r; target = now (target .exit) } ≡ planCall (now (table .entry)) (now (target .entry)) ⌝ }
 {
     assignment::plan(table, target)
 }
@@ -136,7 +109,7 @@ pub extern "C" fn gotalhim_check(
     table: &mut [u32],
     answer: &mut [u64],
 ) -> u32
-    ensures { λ r. ⌜
+    ensures returned { λ r. ⌜
         record { number = r; slices = now (table .exit) ∷ []; answer = now (answer .exit) }
         ≡ checkExport (now (instance .entry)) (now (derivation .entry)) (now (plan .entry)) claimed (now (table .entry)) (now (answer .entry))
         ⌝ }
@@ -156,7 +129,7 @@ pub extern "C" fn gotalhim_readout(
     northing: u32,
     answer: &mut [u64],
 ) -> u32
-    ensures { λ r. ⌜ record { number = r; slices = []; answer = now (answer .exit) } ≡ readoutExport (now (sheet .entry)) (now (plan .entry)) variable easting northing (now (answer .entry)) ⌝ }
+    ensures returned { λ r. ⌜ record { number = r; slices = []; answer = now (answer .exit) } ≡ readoutExport (now (sheet .entry)) (now (plan .entry)) variable easting northing (now (answer .entry)) ⌝ }
 {
     let metres = readout::readout(sheet, plan, variable, easting, northing);
     note(answer, metres.value);
@@ -166,7 +139,7 @@ pub extern "C" fn gotalhim_readout(
 // The cost of an assignment in an instance. Answer: the cost.
 #[no_mangle]
 pub extern "C" fn gotalhim_cost(instance: &[u32], plan: &[u8], answer: &mut [u64]) -> u32
-    ensures { λ r. ⌜ record { number = r; slices = []; answer = now (answer .exit) } ≡ costExport (now (instance .entry)) (now (plan .entry)) (now (answer .entry)) ⌝ }
+    ensures returned { λ r. ⌜ record { number = r; slices = []; answer = now (answer .exit) } ≡ costExport (now (instance .entry)) (now (plan .entry)) (now (answer .entry)) ⌝ }
 {
     let cost = cost::cost(instance, plan);
     note(answer, cost.value);
@@ -183,11 +156,11 @@ pub extern "C" fn gotalhim_drive(
     target: &mut [u8],
     answer: &mut [u64],
 ) -> u32
-    ensures { λ r. ⌜
+    ensures returned { λ r. ⌜
         record { number = r; slices = now (table .exit) ∷ (now (derivation .exit) ∷ (now (target .exit) ∷ [])); answer = now (answer .exit) }
         ≡ driveExport (now (instance .entry)) (now (table .entry)) (now (calls .entry)) (now (derivation .entry)) (now (target .entry)) (now (answer .entry))
         ⌝ }
-    ensures { λ r. ⌜
+    ensures upheld { λ r. ⌜
         DriveUpholds (now (instance .entry)) (now (table .entry)) (now (calls .entry)) (now (derivation .entry)) (now (target .entry))
         r (now (table .exit)) (now (derivation .exit))
         ⌝ }

@@ -7,10 +7,11 @@ use mathlib.Core.List.{List, [], _∷_}
 use lib.ListN.{drop}
 use Rattle.fields.specs.Front.{goodSizes}
 use Rattle.fields.proofs.Sizes.{field-sizes, sizes-each}
-use Rattle.input.specs.Instance.{entriesFault, stationsFault, instanceFault, sizesOf}
-use Rattle.input.specs.Accepted.{Accepted}
+use Rattle.entries.specs.Entries.{entriesFault}
+use Rattle.entries.proofs.Accepting.{entries-accepted}
+use Rattle.input.specs.Instance.{stationsFault, instanceFault, sizesOf}
+use Rattle.input.specs.Accepted.{FaultlessIsAccepted}
 use Rattle.input.proofs.Validating.{Headed, headed-bounds, headed-payload, headed-by, sizes-are, entries-are, sizes-number, instance-apart}
-use Rattle.input.proofs.Accepting.{entries-accepted}
 
 -- a test that has to be passed for no fault
 pub passed : (b : Bool) (x y : ℕ) → x ≡ cond b y 2 → x ≡ 0 → (b ≡ true) × (y ≡ 0)
@@ -22,8 +23,8 @@ unfolding instanceFault
 instance-headed [] e = absurd (omega arith)
 instance-headed (w ∷ ws) e = headed-by (λ n. stationsFault n [] ws) w ws e
 
-pub accepted-instance : (ws : List ℕ) → instanceFault ws ≡ 0 → Accepted ws
-accepted-instance ws e =
+pub faultlessIsAccepted : FaultlessIsAccepted
+faultlessIsAccepted ws e =
     let (n, h) = instance-headed ws e in
     let b = headed-bounds ws n h in
     let (g, f) = passed (goodSizes n (drop 1 ws)) (instanceFault ws) (entriesFault (sizesOf ws) 0 0 (drop (n + 1) ws)) (instance-apart ws n h) e in

@@ -3,11 +3,8 @@ use Prim.Native.Nat.{ℕ, _≤_, _<_}
 use native.Mathlib.Omega.{arith}
 use mathlib.Core.Path.{_≡_, sym, _∙_}
 use mathlib.Core.Bool.{false}
-use mathlib.Core.List.{List}
 use mathlib.Core.Option.{none}
-use lib.ListN.{length, getD, drop, drop-of-length-le}
 use lib.Dec.{eqb}
-use lib.Seq.{drop-cons}
 use borrow.Author.Tests.{ne-eqb}
 use Rattle.words.specs.declared.Word.{Word}
 use Rattle.words.specs.declared.Word.the-variants.{Head, Size}
@@ -17,32 +14,8 @@ use Rattle.words.proofs.Inverse.{head-kind, size-kind}
 use Rattle.fields.specs.Limits.{maxVariables, maxValues}
 use Rattle.fields.specs.Front.{headIn, sizeIn}
 use Rattle.fields.proofs.Fronts.{below, above, head-is, head-none, head-out, size-is, size-none, size-out}
-use Rattle.input.specs.declared.Next.{Next}
-use Rattle.input.specs.declared.Next.the-variants.{End}
-use Rattle.input.specs.declared.Next.the-variants.{Word as Found}
-use Rattle.input.specs.declared.Got.the-variants.{Number, Fault}
-use Rattle.input.specs.Phases.{nextOf, nextBy, headGot, sizeGot}
-
--- ---- the next word
-
-pub next-end : (ws : List ℕ) (at : ℕ) → length ws ≤ at → End ≡ nextOf (drop at ws)
-unfolding nextOf
-next-end ws at h = rw (drop-of-length-le ws h)
-
-pub next-found : (ws : List ℕ) (at : ℕ) → at < length ws → Found (getD ws at 0) ≡ nextOf (drop at ws)
-unfolding nextOf
-next-found ws at h = rw (drop-cons ws at 0 h)
-
-module _ {A : Type 0} (without : A) (with : ℕ → A) (next x : Next) (e : x ≡ next) where
-  pub by-end : x ≡ End → without ≡ nextBy without with next
-  unfolding nextBy
-  by-end g = let h : next ≡ End = sym e ∙ g in rw h
-
-  pub by-word : (w : ℕ) (r : A) → x ≡ Found w → r ≡ with w → r ≡ nextBy without with next
-  unfolding nextBy
-  by-word w r g f = let h : next ≡ Found w = sym e ∙ g in rw (h, f)
-
--- ---- a head, and a station word
+use Rattle.entries.specs.declared.Got.the-variants.{Number, Fault}
+use Rattle.input.specs.Phases.{headGot, sizeGot}
 
 head-missed : (w : ℕ) → headIn w ≡ none → Fault 1 ≡ headGot w
 unfolding headGot

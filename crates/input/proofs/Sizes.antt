@@ -12,15 +12,17 @@ use Rattle.words.specs.Layout.{payloadOf}
 use Rattle.fields.specs.Limits.{maxVariables, maxValues}
 use Rattle.fields.specs.Front.{sizeIn, goodSizes}
 use Rattle.fields.proofs.Fronts.{size-some}
-use Rattle.input.specs.declared.Got.{Got}
-use Rattle.input.specs.declared.Got.the-variants.{Number, Fault}
+use Rattle.reader.specs.declared.word.Next.{Next}
+use Rattle.reader.specs.declared.word.Next.the-variants.{End}
+use Rattle.reader.specs.declared.word.Next.the-variants.{Word as Found}
+use Rattle.reader.specs.Next.{nextOf, nextBy}
+use Rattle.entries.specs.declared.Got.{Got}
+use Rattle.entries.specs.declared.Got.the-variants.{Number, Fault}
+use Rattle.entries.specs.Entries.{entriesFault}
 use Rattle.input.specs.declared.Stations.{Stations}
 use Rattle.input.specs.declared.Sizing.{Sizing}
-use Rattle.input.specs.declared.Next.{Next}
-use Rattle.input.specs.declared.Next.the-variants.{End}
-use Rattle.input.specs.declared.Next.the-variants.{Word as Found}
-use Rattle.input.specs.Instance.{entriesFault, stationsFault}
-use Rattle.input.specs.Phases.{nextOf, nextBy, sizeGot, sizeNext, sizesRead, refusedStations, sizeFrom, sizesLeft, sizingOf, stoppedSizing, sizeBy, sizeOn, stationsIn}
+use Rattle.input.specs.Instance.{stationsFault}
+use Rattle.input.specs.Phases.{sizeGot, sizeNext, sizesRead, refusedStations, sizeFrom, sizesLeft, sizingOf, stoppedSizing, sizeBy, sizeOn, stationsIn}
 use Rattle.input.proofs.Filling.{Filling, filling-start, filling-step, filling-end}
 
 -- ---- a station word that was read

@@ -18,16 +18,18 @@ use Rattle.fields.specs.Padding.{padded}
 use Rattle.fields.proofs.Fronts.{head-some, good-long}
 use Rattle.fields.proofs.Padding.{padded-front}
 use Rattle.fields.proofs.Faults.{no-fault, some-fault}
-use Rattle.input.specs.declared.Got.{Got}
-use Rattle.input.specs.declared.Got.the-variants.{Number, Fault}
+use Rattle.reader.specs.Next.{nextOf, nextBy}
+use Rattle.entries.specs.declared.Got.{Got}
+use Rattle.entries.specs.declared.Got.the-variants.{Number, Fault}
+use Rattle.entries.specs.Entries.{entriesFault}
+use Rattle.entries.specs.Scan.{scanGot}
+use Rattle.entries.proofs.Scanning.{got-fault, got-number}
 use Rattle.input.specs.declared.Stations.{Stations}
 use Rattle.input.specs.declared.Validated.{Validated}
-use Rattle.input.specs.Instance.{entriesFault, stationsFault, instanceFault, sizesOf, entriesOf}
-use Rattle.input.specs.Phases.{nextOf, nextBy, headGot, headNext, sizesRead}
-use Rattle.input.specs.Scan.{scanGot}
+use Rattle.input.specs.Instance.{stationsFault, instanceFault, sizesOf, entriesOf}
+use Rattle.input.specs.Phases.{headGot, headNext, sizesRead}
 use Rattle.input.specs.Calls.{refusedInstance, validateCall}
 use Rattle.input.proofs.Sizes.{stations-taken, stations-refused, stations-apart}
-use Rattle.input.proofs.Scanning.{got-fault, got-number}
 
 -- ---- a head that was read
 
@@ -113,21 +115,26 @@ module _ (ws : List ℕ) (n : ℕ) (h : Headed ws n) where
       unfolding sizesRead found
       is-found = stations-taken (goodSizes n (drop 1 ws)) found refl read r z
 
+      behind-is : read .behind ≡ n + 1
+      unfolding found
+      behind-is = omega (arith, ap (λ (x : Stations). x .behind) (is-found .1))
+
       -- the entries start within the words or at their end
-      pub entries-within : n + 1 ≤ length ws
-      entries-within = omega (arith, good-long n (drop 1 ws) (is-found .0), headed-bounds ws n h, length-drop 1 ws)
+      pub entries-within : read .behind ≤ length ws
+      entries-within = omega (arith, behind-is, good-long n (drop 1 ws) (is-found .0), headed-bounds ws n h, length-drop 1 ws)
 
       pub sizes-padded : read .sizes ≡ padded (sizesOf ws)
       unfolding found
       sizes-padded = rw (sizes-are) (ap (λ (x : Stations). x .sizes) (is-found .1))
 
-      whole : scanGot (take n (read .sizes)) 0 0 (drop (n + 1) ws) ≡ scanGot (sizesOf ws) 0 0 (drop (n + 1) ws)
-      whole = ap (λ ds. scanGot ds 0 0 (drop (n + 1) ws)) (ap (take n) sizes-padded ∙ padded-front (sizesOf ws) n (sizes-number (is-found .0)))
+      whole : scanGot (take n (read .sizes)) 0 0 (drop (read .behind) ws) ≡ scanGot (sizesOf ws) 0 0 (drop (n + 1) ws)
+      whole =
+          rw behind-is (ap (λ ds. scanGot ds 0 0 (drop (n + 1) ws)) (ap (take n) sizes-padded ∙ padded-front (sizesOf ws) n (sizes-number (is-found .0))))
 
       instance-is : instanceFault ws ≡ entriesFault (sizesOf ws) 0 0 (drop (n + 1) ws)
       instance-is = instance-apart ∙ rw (is-found .0)
 
-      module _ (got : Got) (s : got ≡ scanGot (take n (read .sizes)) 0 0 (drop (n + 1) ws)) where
+      module _ (got : Got) (s : got ≡ scanGot (take n (read .sizes)) 0 0 (drop (read .behind) ws)) where
         pub scan-broken : (k : ℕ) → got ≡ Fault k → refusedInstance k ≡ validateCall ws
         unfolding validateCall
         scan-broken k e =

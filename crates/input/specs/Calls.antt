@@ -7,14 +7,7 @@ use lib.Dec.{eqb}
 use Rattle.fields.specs.Limits.{maxVariables}
 use Rattle.fields.specs.Padding.{padded}
 use Rattle.input.specs.declared.Validated.{Validated}
-use Rattle.input.specs.declared.Got.{Got}
-use Rattle.input.specs.declared.Got.the-variants.{Number, Fault}
 use Rattle.input.specs.Instance.{instanceFault, sizesOf, entriesOf}
-
--- the number of the fault at which reading ended
-abbrev pub faultIn : Got → ℕ
-faultIn (Number k) = 0
-faultIn (Fault k) = k
 
 abbrev pub refusedInstance : ℕ → Validated
 refusedInstance k = record { number = k; variables = 0; entries = 0; sizes = replicate maxVariables 0 }

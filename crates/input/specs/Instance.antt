@@ -1,46 +1,14 @@
 -- Instances: the fault of a list of words (0: accepted), and the sizes and entries that accepted words mean.
 use Prim.Native.Nat.{ℕ, zero, suc, _+_}
-use mathlib.Core.Bool.{_&&_, cond}
+use mathlib.Core.Bool.{cond}
 use mathlib.Core.List.{List, [], _∷_, _++_, map}
 use lib.ListN.{getD, take, drop}
-use lib.Dec.{eqb, leb, ltb}
+use lib.Dec.{eqb}
 use Rattle.wcsp.specs.Entry.{Entry}
-use Rattle.words.specs.Layout.{kindOf, payloadOf, variableIn, valueIn}
-use Rattle.fields.specs.Limits.{maxCost, maxEntries}
+use Rattle.words.specs.Layout.{payloadOf}
 use Rattle.fields.specs.Front.{headIn, headed, sizeIn}
 use Rattle.fields.specs.Entries.{entriesFrom}
-
--- what one entry word does to the scan: go on with the lowest variable that may be bound next (0: no entry is open) and the
--- count of cost words, or stop at a fault
-pub data Scanned : Type 0 where
-  goes : ℕ → ℕ → Scanned
-  stops : ℕ → Scanned
-
--- a binding (document 01: pair) over these sizes, its variable at least `from`
-unfoldable pub scanBinding : List ℕ → ℕ → ℕ → ℕ → ℕ → Scanned
-scanBinding sizes from count v a = cond (leb from v && ltb a (getD sizes v 0)) (goes (suc v) count) (stops 3)
-
--- a cost word: 4 for the cost, then 5 for the 4,097th
-unfoldable pub scanCost : ℕ → ℕ → Scanned
-scanCost count c = cond (ltb maxCost c) (stops 4) (cond (leb maxEntries count) (stops 5) (goes 0 (suc count)))
-
--- a word among the entries: 3 if it is neither a binding nor a cost
-unfoldable pub scanWord : List ℕ → ℕ → ℕ → ℕ → Scanned
-scanWord sizes from count w =
-    cond (eqb (kindOf w) 3) (scanBinding sizes from count (variableIn w) (valueIn w))
-    (cond (eqb (kindOf w) 4) (scanCost count (payloadOf w))
-    (stops 3))
-
--- what the scan comes to after a word: what follows from its state, or the fault
-unfoldable pub resume : (ℕ → ℕ → ℕ) → Scanned → ℕ
-resume rest (goes from count) = rest from count
-resume rest (stops k) = k
-
--- the fault of the entries' words, 0 if there is none: 3 where they end inside an entry
-unfoldable pub entriesFault : List ℕ → ℕ → ℕ → List ℕ → ℕ
-unfolding resume
-entriesFault sizes from count [] = cond (eqb from 0) 0 3
-entriesFault sizes from count (w ∷ ws) = resume (λ f c. entriesFault sizes f c ws) (scanWord sizes from count w)
+use Rattle.entries.specs.Entries.{entriesFault}
 
 -- k station words are to come, after those of these sizes; then the entries
 unfoldable pub stationsFault : ℕ → List ℕ → List ℕ → ℕ

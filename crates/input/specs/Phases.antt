@@ -1,30 +1,19 @@
 -- Inner: what the readers of the words in front of the entries answer; no statement for users rests on it. Laws in proofs/ join them to the faults of Instance.
 use Prim.Native.Nat.{ℕ, _+_, _-_}
 use mathlib.Core.Bool.{Bool, cond}
-use mathlib.Core.List.{List, [], _∷_, map}
+use mathlib.Core.List.{List, map}
 use lib.ListN.{take, drop, set, replicate}
 use lib.Dec.{eqb, ltb}
 use Rattle.words.specs.Layout.{payloadOf}
 use Rattle.fields.specs.Limits.{maxVariables}
 use Rattle.fields.specs.Front.{headIn, headed, sizeIn, goodSizes}
 use Rattle.fields.specs.Padding.{padded}
-use Rattle.input.specs.declared.Next.{Next}
-use Rattle.input.specs.declared.Next.the-variants.{End}
-use Rattle.input.specs.declared.Next.the-variants.{Word as Found}
-use Rattle.input.specs.declared.Got.{Got}
-use Rattle.input.specs.declared.Got.the-variants.{Number, Fault}
+use Rattle.reader.specs.declared.word.Next.{Next}
+use Rattle.reader.specs.Next.{nextOf, nextBy}
+use Rattle.entries.specs.declared.Got.{Got}
+use Rattle.entries.specs.declared.Got.the-variants.{Number, Fault}
 use Rattle.input.specs.declared.Stations.{Stations}
 use Rattle.input.specs.declared.Sizing.{Sizing}
-
--- the first word
-unfoldable pub nextOf : List ℕ → Next
-nextOf [] = End
-nextOf (w ∷ ws) = Found w
-
--- what follows from the next word, or what there is where the words end
-unfoldable pub nextBy {ℓ} : {A : Type ℓ} → A → (ℕ → A) → Next → A
-nextBy without with End = without
-nextBy without with (Found w) = with w
 
 -- the number of variables that a word gives as a head; the same of the next word
 unfoldable pub headGot : ℕ → Got

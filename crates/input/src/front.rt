@@ -1,15 +1,15 @@
 // The words in front of the entries: the head and station words.
-use crate::Got;
-use crate::Next;
 use crate::Sizing;
 use crate::Stations;
-use crate::fault_in;
-use crate::reader::come_to;
-use crate::reader::moved;
-use crate::reader::next;
-use crate::reader::word_at;
+use entries::Got;
+use entries::fault_in;
 use fields::MAX_VALUES;
 use fields::MAX_VARIABLES;
+use reader::come_to;
+use reader::moved;
+use reader::next;
+use reader::word::Next;
+use reader::word_at;
 use words::Word;
 ghost use mathlib.Core.Path.{_≡_};
 ghost use Prim.Native.Nat.{_≤_};

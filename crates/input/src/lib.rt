@@ -1,11 +1,11 @@
 // Instances, read in one pass: the fault nearest the front decides. The readers of the phases serve sheets too.
-pub mod entries;
 pub mod front;
-pub mod reader;
 
+use entries::Got;
+use entries::fault_in;
 use fields::MAX_VARIABLES;
 ghost use mathlib.Core.Path.{_≡_};
-ghost use Rattle.input.specs.Calls.{validateCall, refusedInstance, faultIn};
+ghost use Rattle.input.specs.Calls.{validateCall, refusedInstance};
 
 // An instance's number (0: accepted), its variables, its entries, and the sizes of twelve variables, those it lacks being 1.
 pub struct Validated {
@@ -13,18 +13,6 @@ pub struct Validated {
     pub variables: u32,
     pub entries: u32,
     pub sizes: [u8; MAX_VARIABLES],
-}
-
-// The next word, or the end of the words.
-pub enum Next {
-    Word(u32),
-    End,
-}
-
-// A number that was read, or the number of the fault at which reading ends.
-pub enum Got {
-    Number(u32),
-    Fault(u32),
 }
 
 // The stations that were read: a fault (0: none), the index behind them, and the sizes as in Validated.
@@ -42,17 +30,9 @@ pub struct Sizing {
     pub sizes: [u8; MAX_VARIABLES],
 }
 
-// The state of the scan behind an entry word: the lowest variable that may be bound next (0: no entry is open) and the
-// count of cost words; behind the last word that count; or the number of the fault at which reading ends.
-pub enum Behind {
-    Goes(u32, u32),
-    Ends(u32),
-    Stops(u32),
-}
-
 // The test of an instance: 1 to 5, or its variables, entries and sizes.
 pub fn validate(words: &[u32]) -> Validated
-    ensures { λ r. ⌜ r ≡ validateCall (now (words .entry)) ⌝ }
+    ensures returned { λ r. ⌜ r ≡ validateCall (now (words .entry)) ⌝ }
 {
     let head = front::read_head(words);
     let Got::Number(n) = head else {
@@ -63,7 +43,8 @@ pub fn validate(words: &[u32]) -> Validated
         return refused_instance(read.number);
     }
     let sizes = read.sizes;
-    let got = entries::scan_entries(words, n as usize + 1, &sizes, n as usize, 0);
+    let at = read.behind;
+    let got = entries::scan_entries(words, at, &sizes, n as usize, 0);
     let Got::Number(count) = got else {
         return refused_instance(fault_in(got));
     };
@@ -83,14 +64,5 @@ fn refused_instance(k: u32) -> Validated
         variables: 0,
         entries: 0,
         sizes: [0; MAX_VARIABLES],
-    }
-}
-
-pub fn fault_in(got: Got) -> u32
-    ensures { λ r. ⌜ r ≡ faultIn got ⌝ }
-{
-    match got {
-        Got::Number(_) => 0,
-        Got::Fault(k) => k,
     }
 }

@@ -7,7 +7,7 @@ use mathlib.Core.List.{List, [], _∷_, _++_}
 use mathlib.Core.Option.{none}
 use lib.ListN.{length, take, drop}
 use lib.Seq.{take-at}
-use Rattle.wcsp.specs.Row.{Row, emptyWeight}
+use Rattle.wcsp.specs.Row.{emptyWeight}
 use Rattle.wcsp.specs.Resolve.{nextPair}
 use Rattle.wcsp.specs.Rebuild.{rebuilt}
 use Rattle.wcsp.proofs.Lists.{along-length}
@@ -15,24 +15,19 @@ use Rattle.sheet.specs.Sheet.{sheetFault, sheetSizes}
 use Rattle.input.specs.Instance.{sizesOf, entriesOf}
 use Rattle.table.specs.Meaning.{tableSizes, ownRows, capacityOf}
 use Rattle.table.specs.Valid.{validTable}
-use Rattle.sheet.specs.Made.{madeWords}
-use Rattle.sheet.proofs.Reading.{made-accepted}
+use Rattle.making.specs.Made.{madeWords}
+use Rattle.making.proofs.Reading.{made-accepted}
 use Rattle.encoding.specs.Calls.{encodeCall}
-use Rattle.resolution.specs.declared.Outcome.{Outcome}
 use Rattle.resolution.specs.Run.{runRows}
 use Rattle.resolution.specs.Calls.{runCall}
+use Rattle.resolution.specs.Numbers.{outcomeField, runNumber}
 use Rattle.assignment.specs.Calls.{planCall}
 use Rattle.checker.specs.Theorems.{Best}
 use Rattle.calls.specs.Calls.{runAsked, afterCall, afterCalls}
-use Rattle.calls.specs.Demand.{RunEnds, UpheldFrom}
+use Rattle.calls.specs.Demand.{UpheldFrom}
 use Rattle.calls.proofs.Upholding.{demand3}
 use Rattle.planning.specs.Solving.{tableBuffer, stepLimit}
 use Rattle.planning.specs.Theorems.{DoneIsBest, NoneBelow, RunFrom}
-
--- a run that is done left no pair
-done-ends : (ds : List ℕ) (cap most steps : ℕ) (rs : List Row) (o : Outcome) → o ≡ Outcome.Done → RunEnds ds cap most steps rs o
-    → nextPair ds rs ≡ none
-done-ends ds cap most steps rs o e h = rw e at h
 
 -- a run on a valid table leaves a word in its slice for each of its steps
 words-made : (t slice : List ℕ) (limit : ℕ) → validTable t ≡ true
@@ -76,7 +71,7 @@ module _ (sheet t slice : List ℕ) (limit : ℕ) (fine : sheetFault sheet ≡ 0
 
   pub run-from : length t ≡ tableBuffer → min limit (length slice) ≡ stepLimit
       → let r = runCall (encodeCall (madeWords sheet) t .table) limit slice in
-      RunFrom (madeWords sheet) (r .answer .steps) (r .answer .bound) (r .answer .outcome)
+      RunFrom (madeWords sheet) (r .answer .steps) (r .answer .bound) (runNumber (r .answer)) (outcomeField (r .answer .outcome))
   unfolding left
   run-from long most =
       record {
@@ -90,11 +85,11 @@ module _ (sheet t slice : List ℕ) (limit : ℕ) (fine : sheetFault sheet ≡ 0
 
   -- ---- a run that is done
 
-  module _ (target : List ℕ) (ended : runCall (encodeCall (madeWords sheet) t .table) limit slice .answer .outcome ≡ Outcome.Done)
+  module _ (target : List ℕ) (ended : outcomeField (runCall (encodeCall (madeWords sheet) t .table) limit slice .answer .outcome) ≡ 0)
       (long : length (sheetSizes sheet) ≤ length target) where
     no-pair : nextPair (sizesOf (madeWords sheet)) (ownRows left) ≡ none
     unfolding left
-    no-pair = done-ends (sizesOf (madeWords sheet)) _ _ _ _ _ ended (before .1 .run limit slice)
+    no-pair = before .1 .runDone limit slice .0 ended
 
     plan : List ℕ
     plan = rebuilt (sizesOf (madeWords sheet)) (ownRows left)

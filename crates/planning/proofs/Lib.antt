@@ -1,5 +1,4 @@
 -- The laws of a sheet's value.
-mod Words
 mod Solving
 pub mod Best
 pub mod Meaning

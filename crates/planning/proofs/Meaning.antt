@@ -1,34 +1,44 @@
 -- What a sheet's value means: cases along the value's definitions, in buffers of the program's lengths whatever lies in them.
 use Prim.Native.Nat.{ℕ, _+_, _*_, _%_, _≤_, _<_}
 use native.Mathlib.Omega.{arith}
-use mathlib.Core.Path.{_≡_, refl, ap, ap₂}
+use mathlib.Core.Path.{_≡_, refl, sym, ap, ap₂}
 use mathlib.Core.Bool.{Bool, true, false, cond}
 use mathlib.Core.List.{List}
 use lib.ListN.{length, take, replicate, length-replicate}
 use lib.Dec.{eqb, ltb}
 use borrow.Author.Tests.{eq-eqb, eqb-true, eqb-false, ltb-true, ltb-false}
+use Rattle.wcsp.specs.Row.{Row}
+use Rattle.fields.specs.Limits.{maxVariables}
 use Rattle.sheet.proofs.Acceptance.{accepted-sheet}
 use Rattle.sheet.specs.Sheet.{sheetFault}
 use Rattle.input.specs.Instance.{instanceFault, sizesOf, entriesOf}
 use Rattle.table.specs.Layout.{capacity}
-use Rattle.sheet.specs.Made.{madeWords}
-use Rattle.sheet.specs.Calls.{Made, makeCall}
-use Rattle.sheet.proofs.Reading.{made-accepted}
+use Rattle.making.specs.Made.{madeWords}
+use Rattle.making.specs.Calls.{Made, makeCall}
+use Rattle.making.proofs.Reading.{made-accepted}
 use Rattle.encoding.specs.Calls.{encodedRows, encodeCall}
 use Rattle.resolution.specs.declared.Outcome.{Outcome}
-use Rattle.resolution.specs.Numbers.{outcomeNumber}
+use Rattle.resolution.specs.Numbers.{outcomeNumber, outcomeField}
 use Rattle.resolution.specs.Calls.{RunReturned, runCall}
 use Rattle.assignment.specs.Calls.{planCall}
 use Rattle.checker.proofs.Encoded.{encodes, encode-tests, coded}
-use Rattle.planning.specs.Words.{wordsIn}
+use Rattle.calls.specs.Demand.{RunEnds, noneLeft, limitMet, noRoom}
+use Rattle.littleendian.specs.Words.{wordsIn}
 use Rattle.planning.specs.Solving.{bufferWords, tableBuffer, stepLimit, refusedSolved, finishedSolved, endedSolved, solveTable, solveInstance, withInstance, solveCall, sheetSolved, solvedOf}
 use Rattle.planning.specs.Theorems.{NoneBelow, RunFrom, Held, SheetMeans, faulty, longInstance, manyRows, planned, paused, full, Means, tooLong, noWords, ofWords, SolveMeans, SolvedMeans}
 use Rattle.planning.proofs.Best.{doneIsBest, run-below, run-from}
-use Rattle.sheet.proofs.MakeTests.{Making, written, tooShort, atFault, making, made-in}
+use Rattle.making.proofs.MakeTests.{Making, written, tooShort, atFault, making, made-in}
 use Rattle.sheet.proofs.Faults.{sheet-small}
 
 refusal-same : (sheet : List ℕ) (k l : ℕ) → k ≡ l → SheetMeans sheet (refusedSolved l) → SheetMeans sheet (refusedSolved k)
 refusal-same sheet k l e r = rw e r
+
+-- a run that a number stopped was stopped by 12
+stopped-twelve : {ds : List ℕ} {cap most n a b : ℕ} {rs : List Row} (k : ℕ) → a ≡ k → RunEnds ds cap most n rs a b → b ≡ outcomeField (Outcome.Refused k) → k ≡ 12
+unfolding outcomeField
+stopped-twelve k e (noneLeft f) g = absurd (omega (arith, rw (← e) at g))
+stopped-twelve k e (limitMet l pr f) g = absurd (omega (arith, rw (← e) at g))
+stopped-twelve k e (noRoom l pr f m) g = sym e
 
 -- an accepted instance that a table with room for head, sizes and row count does not take: its rows are too many
 encode-full : (inst t : List ℕ) (a b c : Bool) → eqb (instanceFault inst) 0 ≡ a → ltb (length t) (length (sizesOf inst) + 2) ≡ b
@@ -49,7 +59,7 @@ module _ (sheet instance table slice : List ℕ) (li : length instance ≡ buffe
   module _ (fine : sheetFault sheet ≡ 0) (short : length (madeWords sheet) ≤ bufferWords) where
     run-means : encodeCall (madeWords sheet) table .answer .number ≡ 0
         → SheetMeans sheet (solveTable stepLimit (encodeCall (madeWords sheet) table .table) slice .answer)
-    unfolding solveTable endedSolved finishedSolved outcomeNumber
+    unfolding solveTable endedSolved finishedSolved outcomeNumber outcomeField
     run-means e = go (r .answer .outcome) refl
       where
         r : RunReturned
@@ -66,18 +76,19 @@ module _ (sheet instance table slice : List ℕ) (li : length instance ≡ buffe
         below : NoneBelow (sizesOf (madeWords sheet)) (entriesOf (madeWords sheet)) (r .answer .bound)
         below = run-below sheet table slice stepLimit fine e
 
-        ran : RunFrom (madeWords sheet) (r .answer .steps) (r .answer .bound) (r .answer .outcome)
-        ran = run-from sheet table slice stepLimit fine e lt (omega arith)
+        ran : (o : Outcome) → r .answer .outcome ≡ o → RunFrom (madeWords sheet) (r .answer .steps) (r .answer .bound) (outcomeNumber o) (outcomeField o)
+        ran o f = rw (← f) (run-from sheet table slice stepLimit fine e lt (omega arith))
 
         go : (o : Outcome) → r .answer .outcome ≡ o → SheetMeans sheet (endedSolved (r .table) (r .answer .steps) (r .answer .bound) o)
         go Outcome.Done f =
-            let (number, best) = doneIsBest sheet table slice (replicate 12 0) stepLimit fine e f (accepted-sheet sheet fine .sizes .most) in
-            rw (eq-eqb (planCall (r .table) (replicate 12 0) .number) 0 number)
-            (planned (planCall (r .table) (replicate 12 0) .target) (r .answer .steps) (r .answer .bound) held best (rw (← f) ran))
-        go Outcome.Paused f = paused (r .answer .steps) (r .answer .bound) held below (rw (← f) ran)
+            let zeros : List ℕ = replicate maxVariables 0 in
+            let (number, best) = doneIsBest sheet table slice zeros stepLimit fine e (ap outcomeField f) (accepted-sheet sheet fine .sizes .most) in
+            rw (eq-eqb (planCall (r .table) zeros .number) 0 number)
+            (planned (planCall (r .table) zeros .target) (r .answer .steps) (r .answer .bound) held best (ran Outcome.Done f))
+        go Outcome.Paused f = paused (r .answer .steps) (r .answer .bound) held below (ran Outcome.Paused f)
         go (Outcome.Refused k) f =
-            let x : RunFrom (madeWords sheet) (r .answer .steps) (r .answer .bound) (Outcome.Refused k) = rw (← f) ran in
-            let twelve : k ≡ 12 = x .ends .0 in
+            let x : RunFrom (madeWords sheet) (r .answer .steps) (r .answer .bound) k (outcomeField (Outcome.Refused k)) = ran (Outcome.Refused k) f in
+            let twelve : k ≡ 12 = stopped-twelve k refl (x .ends) refl in
             rw (eq-eqb k 12 twelve) (full (r .answer .steps) (r .answer .bound) held below (rw twelve at x))
 
     many-rows : (encodeCall (madeWords sheet) table .answer .number ≡ 0 → ⊥)

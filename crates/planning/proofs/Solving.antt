@@ -4,8 +4,9 @@ use mathlib.Core.Path.{_≡_, ap}
 use mathlib.Core.List.{List}
 use lib.ListN.{length, take, replicate}
 use borrow.Author.Tests.{eq-eqb, ne-eqb, lt-ltb, le-ltb}
+use Rattle.fields.specs.Limits.{maxVariables}
 use Rattle.fields.specs.declared.Answer.{Answer}
-use Rattle.sheet.specs.Calls.{Made, makeCall}
+use Rattle.making.specs.Calls.{Made, makeCall}
 use Rattle.encoding.specs.Calls.{EncodeReturned, encodeCall}
 use Rattle.resolution.specs.declared.Outcome.{Outcome}
 use Rattle.resolution.specs.declared.RunAnswer.{RunAnswer}
@@ -13,15 +14,15 @@ use Rattle.resolution.specs.Calls.{RunReturned, runCall}
 use Rattle.assignment.specs.Calls.{PlanReturned, planCall}
 use Rattle.planning.specs.declared.Ending.{Ending}
 use Rattle.planning.specs.declared.Solved.{Solved}
-use Rattle.planning.specs.Words.{wordsIn}
+use Rattle.littleendian.specs.Words.{wordsIn}
 use Rattle.planning.specs.Solving.{bufferWords, tableBuffer, stepLimit, refusedSolved, stoppedSolved, plannedSolved, finishedSolved, endedSolved, TableSolved, solveTable, solveInstance, SolveReturned, withInstance, solveCall, solvedOf}
-use Rattle.sheet.proofs.MakeTests.{MadeIn, making, made-in}
+use Rattle.making.proofs.MakeTests.{MadeIn, making, made-in}
 
 -- ---- what a run came to
 
 module _ (table : List ℕ) (steps bound k : ℕ) (target : List ℕ)
-    (called : _≡_ {A = PlanReturned} (record { number = k; target = target }) (planCall table (replicate 12 0))) where
-  e : k ≡ planCall table (replicate 12 0) .number
+    (called : _≡_ {A = PlanReturned} (record { number = k; target = target }) (planCall table (replicate maxVariables 0))) where
+  e : k ≡ planCall table (replicate maxVariables 0) .number
   e = ap (λ r. r .number) called
 
   pub finished-refused : (s : Solved) → (k ≡ 0 → ⊥) → s ≡ refusedSolved k → s ≡ finishedSolved table steps bound
@@ -30,7 +31,7 @@ module _ (table : List ℕ) (steps bound k : ℕ) (target : List ℕ)
 
   pub finished-planned : k ≡ 0 → plannedSolved target steps bound ≡ finishedSolved table steps bound
   unfolding finishedSolved
-  finished-planned z = let f : target ≡ planCall table (replicate 12 0) .target = ap (λ r. r .target) called in rw (← e, eq-eqb k 0 z, f)
+  finished-planned z = let f : target ≡ planCall table (replicate maxVariables 0) .target = ap (λ r. r .target) called in rw (← e, eq-eqb k 0 z, f)
 
 module _ (table : List ℕ) (steps bound : ℕ) (o : Outcome) (s : Solved) where
   pub ended-done : o ≡ Outcome.Done → s ≡ finishedSolved table steps bound → s ≡ endedSolved table steps bound o

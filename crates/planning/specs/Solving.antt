@@ -4,14 +4,15 @@ use mathlib.Core.Bool.{cond}
 use mathlib.Core.List.{List}
 use lib.ListN.{length, take, replicate}
 use lib.Dec.{eqb, ltb}
-use Rattle.sheet.specs.Calls.{makeCall}
+use Rattle.fields.specs.Limits.{maxVariables}
+use Rattle.making.specs.Calls.{makeCall}
 use Rattle.encoding.specs.Calls.{encodeCall}
 use Rattle.resolution.specs.declared.Outcome.{Outcome}
 use Rattle.resolution.specs.Calls.{runCall}
 use Rattle.assignment.specs.Calls.{planCall}
 use Rattle.planning.specs.declared.Ending.{Ending}
 use Rattle.planning.specs.declared.Solved.{Solved}
-use Rattle.planning.specs.Words.{wordsIn}
+use Rattle.littleendian.specs.Words.{wordsIn}
 
 -- the program's buffers in words, one of bufferWords for each of sheet, instance and steps; the limit of its run
 abbrev pub bufferWords : ℕ
@@ -27,7 +28,7 @@ stepLimit = 16000
 
 -- a run that was stopped has its steps and its bound, and no plan
 abbrev pub stoppedSolved : Ending → ℕ → ℕ → Solved
-stoppedSolved e steps bound = record { ending = e; steps = steps; bound = bound; plan = replicate 12 0 }
+stoppedSolved e steps bound = record { ending = e; steps = steps; bound = bound; plan = replicate maxVariables 0 }
 
 -- a refusal has its number, other fields 0
 abbrev pub refusedSolved : ℕ → Solved
@@ -48,7 +49,7 @@ endingNumber Ending.Full = 12
 -- a finished run: the plan call's number decides, and 0 has the bytes that it writes to a zero target
 unfoldable pub finishedSolved : List ℕ → ℕ → ℕ → Solved
 finishedSolved table steps bound =
-    let planned = planCall table (replicate 12 0) in
+    let planned = planCall table (replicate maxVariables 0) in
     cond (eqb (planned .number) 0) (plannedSolved (planned .target) steps bound) (refusedSolved (planned .number))
 
 -- the plan; paused; full if 12 stopped it, and a refusal if another number did

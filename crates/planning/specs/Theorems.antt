@@ -9,17 +9,17 @@ use Rattle.wcsp.specs.Entry.{Entry, cost}
 use Rattle.sheet.specs.Sheet.{sheetFault, sheetSizes}
 use Rattle.input.specs.Instance.{sizesOf, entriesOf}
 use Rattle.table.specs.Layout.{capacity}
-use Rattle.sheet.specs.Made.{madeWords}
+use Rattle.making.specs.Made.{madeWords}
 use Rattle.encoding.specs.Calls.{encodedRows, encodeCall}
-use Rattle.resolution.specs.declared.Outcome.{Outcome}
 use Rattle.resolution.specs.Calls.{runCall}
+use Rattle.resolution.specs.Numbers.{outcomeField}
 use Rattle.assignment.specs.Calls.{planCall}
 use Rattle.checker.specs.Theorems.{Best}
 use Rattle.calls.specs.Calls.{Derives}
 use Rattle.calls.specs.Demand.{RunEnds}
 use Rattle.planning.specs.declared.Ending.{Ending}
 use Rattle.planning.specs.declared.Solved.{Solved}
-use Rattle.planning.specs.Words.{wordsIn}
+use Rattle.littleendian.specs.Words.{wordsIn}
 use Rattle.planning.specs.Solving.{bufferWords, tableBuffer, stepLimit, refusedSolved, stoppedSolved, plannedSolved, endingNumber, solveCall, solvedOf}
 
 -- for every accepted sheet, every table that takes its encoding, every limit and slice: once the run is done, the plan call is good, the bytes
@@ -27,7 +27,7 @@ use Rattle.planning.specs.Solving.{bufferWords, tableBuffer, stepLimit, 
 abbrev pub DoneIsBest : Type 0
 DoneIsBest = (sheet t slice target : List ℕ) (limit : ℕ) → sheetFault sheet ≡ 0 → encodeCall (madeWords sheet) t .answer .number ≡ 0
     → let r = runCall (encodeCall (madeWords sheet) t .table) limit slice in
-    r .answer .outcome ≡ Outcome.Done
+    outcomeField (r .answer .outcome) ≡ 0
     → length (sheetSizes sheet) ≤ length target
     → (planCall (r .table) target .number ≡ 0)
     × Best (sizesOf (madeWords sheet)) (entriesOf (madeWords sheet)) (take (length (sheetSizes sheet)) (planCall (r .table) target .target))
@@ -37,15 +37,15 @@ DoneIsBest = (sheet t slice target : List ℕ) (limit : ℕ) → sheetFault shee
 abbrev pub NoneBelow : List ℕ → List Entry → ℕ → Type 0
 NoneBelow ds es b = (p : List ℕ) → InRange ds p → b ≤ cost es p
 
--- so many steps from the encoding of an instance, each on the next pair, led to rows whose empty row has this weight, and ended so in a table
--- of the program's length
-pub record RunFrom (inst : List ℕ) (steps bound : ℕ) (o : Outcome) : Type 0 where
+-- so many steps from the encoding of an instance, each on the next pair, led to rows whose empty row has this weight, and ended with this number and
+-- outcome field in a table of the program's length
+pub record RunFrom (inst : List ℕ) (steps bound number field : ℕ) : Type 0 where
   pub words : List ℕ
   pub rows : List Row
   pub derived : Derives (sizesOf inst) (encodedRows inst) words rows
   pub made : length words ≡ steps
   pub weight : emptyWeight (length (sizesOf inst)) rows ≡ bound
-  pub ends : RunEnds (sizesOf inst) (capacity tableBuffer (length (sizesOf inst))) stepLimit steps rows o
+  pub ends : RunEnds (sizesOf inst) (capacity tableBuffer (length (sizesOf inst))) stepLimit steps rows number field
 
 -- an accepted sheet whose instance the program's buffer holds, and its table the rows of the encoding
 pub record Held (sheet : List ℕ) : Type 0 where
@@ -65,13 +65,13 @@ pub data SheetMeans (sheet : List ℕ) : Solved → Type 0 where
   -- no pair is left: the best assignment and its cost
   planned : (plan : List ℕ) (steps least : ℕ) → Held sheet
       → Best (sizesOf (madeWords sheet)) (entriesOf (madeWords sheet)) (take (length (sheetSizes sheet)) plan) least
-      → RunFrom (madeWords sheet) steps least Outcome.Done → SheetMeans sheet (plannedSolved plan steps least)
+      → RunFrom (madeWords sheet) steps least 0 0 → SheetMeans sheet (plannedSolved plan steps least)
   -- the limit is reached: a bound on every cost
   paused : (steps b : ℕ) → Held sheet → NoneBelow (sizesOf (madeWords sheet)) (entriesOf (madeWords sheet)) b
-      → RunFrom (madeWords sheet) steps b Outcome.Paused → SheetMeans sheet (stoppedSolved Ending.Paused steps b)
+      → RunFrom (madeWords sheet) steps b 0 1 → SheetMeans sheet (stoppedSolved Ending.Paused steps b)
   -- the next step has more rows than the table takes: a bound on every cost
   full : (steps b : ℕ) → Held sheet → NoneBelow (sizesOf (madeWords sheet)) (entriesOf (madeWords sheet)) b
-      → RunFrom (madeWords sheet) steps b (Outcome.Refused 12) → SheetMeans sheet (stoppedSolved Ending.Full steps b)
+      → RunFrom (madeWords sheet) steps b 12 2 → SheetMeans sheet (stoppedSolved Ending.Full steps b)
 
 -- what a value says of bytes
 pub data Means (bytes : List ℕ) : Solved → Type 0 where

@@ -1,9 +1,8 @@
 // A sheet planned: the value that it comes to, in lent buffers of any length, and for bytes in the program's own.
 ghost use mathlib.Core.Path.{_≡_};
-ghost use Prim.Native.Nat.{_+_, _*_, _/_, _≤_, _<_};
-ghost use lib.ListN.{length, take, drop};
-ghost use Rattle.planning.specs.Words.{wordsIn, wordAt};
 ghost use Rattle.planning.specs.Solving.{refusedSolved, stoppedSolved, finishedSolved, endedSolved, solveTable, solveInstance, solveCall, solvedOf};
+use fields::MAX_VARIABLES;
+use littleendian::read_words;
 use resolution::Outcome;
 use resolution::RunAnswer;
 
@@ -27,38 +26,14 @@ pub struct Solved {
     pub ending: Ending,
     pub steps: usize,
     pub bound: u64,
-    pub plan: [u8; 12],
-}
-
-// The little-endian word whose first byte stands at an index.
-fn word_at(bytes: &[u8], at: usize) -> u32
-    requires { ⌜ at + 4 ≤ length (now bytes) ⌝ }
-    ensures { λ r. ⌜ r ≡ wordAt (now (bytes .entry)) at ⌝ }
-{
-    let low = fields::wide(bytes[at]) + 256 * fields::wide(bytes[at + 1]);
-    let high = fields::wide(bytes[at + 2]) + 256 * fields::wide(bytes[at + 3]);
-    low + 65536 * high
-}
-
-// The words of the bytes, in front of a buffer that they fit into, whose rest stays; their number.
-pub fn read_words(bytes: &[u8], words: &mut [u32]) -> usize
-    requires { ⌜ length (now bytes) / 4 ≤ length (now words) ⌝ }
-    ensures { λ r. ⌜ (take r (now (words .exit)) ≡ wordsIn (now (bytes .entry))) × (r ≡ length (now (bytes .entry)) / 4) × (drop r (now (words .exit)) ≡ drop r (now (words .entry))) ⌝ }
-{
-    let n = bytes.len() / 4;
-    let mut i = 0;
-    while i < n {
-        words[i] = word_at(bytes, 4 * i);
-        i += 1;
-    }
-    n
+    pub plan: [u8; MAX_VARIABLES],
 }
 
 // Without a plan: so many steps, and a bound.
 fn stopped(ending: Ending, steps: usize, bound: u64) -> Solved
     ensures { λ r. ⌜ r ≡ stoppedSolved ending steps bound ⌝ }
 {
-    let plan = [0u8; 12];
+    let plan = [0u8; MAX_VARIABLES];
     Solved {
         ending,
         steps,
@@ -77,7 +52,7 @@ fn refused(k: u32) -> Solved
 fn finished(table: &[u32], steps: usize, bound: u64) -> Solved
     ensures { λ r. ⌜ r ≡ finishedSolved (now (table .entry)) steps bound ⌝ }
 {
-    let mut plan = [0u8; 12];
+    let mut plan = [0u8; MAX_VARIABLES];
     let planned = assignment::plan(table, &mut plan);
     if planned != 0 {
         return refused(planned);
@@ -137,9 +112,9 @@ pub fn solve_in(
     table: &mut [u32],
     steps: &mut [u32],
 ) -> Solved
-    ensures { λ r. ⌜ record { answer = r; instance = now (instance .exit); table = now (table .exit); steps = now (steps .exit) } ≡ solveCall (now (sheet .entry)) limit (now (instance .entry)) (now (table .entry)) (now (steps .entry)) ⌝ }
+    ensures returned { λ r. ⌜ record { answer = r; instance = now (instance .exit); table = now (table .exit); steps = now (steps .exit) } ≡ solveCall (now (sheet .entry)) limit (now (instance .entry)) (now (table .entry)) (now (steps .entry)) ⌝ }
 {
-    let made = sheet::make(sheet, instance);
+    let made = making::make(sheet, instance);
     let number = made.number;
     if number != 0 {
         return refused(number);
@@ -150,7 +125,7 @@ pub fn solve_in(
 
 // A sheet's bytes planned in buffers of the program's own. The length is judged before a word is read.
 pub fn solve(bytes: &[u8]) -> Solved
-    ensures { λ r. ⌜ r ≡ solvedOf (now (bytes .entry)) ⌝ }
+    ensures returned { λ r. ⌜ r ≡ solvedOf (now (bytes .entry)) ⌝ }
 {
     if 4 * BUFFER_WORDS < bytes.len() {
         return refused(10);

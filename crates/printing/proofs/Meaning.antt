@@ -3,7 +3,7 @@ use Prim.Native.Nat.{ℕ}
 use mathlib.Core.List.{List}
 use Rattle.planning.specs.declared.Solved.{Solved}
 use Rattle.planning.specs.Solving.{solvedOf}
-use Rattle.planning.specs.Words.{wordsIn}
+use Rattle.littleendian.specs.Words.{wordsIn}
 use Rattle.planning.specs.Theorems.{SheetMeans, faulty, longInstance, manyRows, planned, paused, full, Means, tooLong, noWords, ofWords}
 use Rattle.planning.proofs.Meaning.{solvedMeans}
 use Rattle.printing.specs.Printed.{endingText, solvedText}

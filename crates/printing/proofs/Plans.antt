@@ -10,12 +10,12 @@ use Rattle.words.specs.Layout.{payloadOf}
 use Rattle.sheet.proofs.Acceptance.{accepted-sheet}
 use Rattle.sheet.specs.Sheet.{sheetFault, sheetSizes}
 use Rattle.input.specs.Instance.{sizesOf, entriesOf}
-use Rattle.sheet.specs.Made.{madeWords}
-use Rattle.sheet.proofs.Reading.{made-accepted}
+use Rattle.making.specs.Made.{madeWords}
+use Rattle.making.proofs.Reading.{made-accepted}
 use Rattle.checker.specs.Theorems.{Best}
 use Rattle.planning.specs.declared.Ending.{Ending}
 use Rattle.planning.specs.declared.Solved.{Solved}
-use Rattle.planning.specs.Words.{wordsIn}
+use Rattle.littleendian.specs.Words.{wordsIn}
 use Rattle.planning.specs.Solving.{bufferWords}
 use Rattle.planning.specs.Theorems.{SheetMeans, faulty, longInstance, manyRows, planned, paused, full, Means, tooLong, noWords, ofWords}
 use Rattle.printing.specs.Plans.{HoldsPlan}

@@ -7,7 +7,7 @@ use lib.ListN.{length, take, replicate}
 use Rattle.text.specs.Putting.{Put}
 use Rattle.planning.specs.declared.Ending.{Ending}
 use Rattle.planning.specs.declared.Solved.{Solved}
-use Rattle.planning.specs.Words.{wordsIn}
+use Rattle.littleendian.specs.Words.{wordsIn}
 use Rattle.planning.specs.Solving.{solvedOf}
 use Rattle.printing.specs.Printed.{planText, endingText, solvedText, printed}
 

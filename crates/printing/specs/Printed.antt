@@ -3,12 +3,11 @@ use Prim.Native.Nat.{ℕ, zero, suc}
 use mathlib.Core.List.{List, [], _++_}
 use lib.ListN.{length, getD}
 use Rattle.sheet.specs.Sheet.{sheetSizes}
-use Rattle.sheet.specs.Made.{travel}
-use Rattle.sheet.specs.Calls.{positionIn}
+use Rattle.sheet.specs.Calls.{positionIn, travel}
 use Rattle.text.specs.Text.{refusedLine, pausedLine, fullLine, planHead, variableLine}
 use Rattle.planning.specs.declared.Ending.{Ending}
 use Rattle.planning.specs.declared.Solved.{Solved}
-use Rattle.planning.specs.Words.{wordsIn}
+use Rattle.littleendian.specs.Words.{wordsIn}
 use Rattle.planning.specs.Solving.{solvedOf}
 
 -- the metres from the previous variable's chosen value; 0 for the first

@@ -4,7 +4,7 @@ use mathlib.Core.List.{List}
 use Rattle.text.specs.Text.{refusedLine, pausedLine, fullLine}
 use Rattle.planning.specs.declared.Ending.{Ending}
 use Rattle.planning.specs.declared.Solved.{Solved}
-use Rattle.planning.specs.Words.{wordsIn}
+use Rattle.littleendian.specs.Words.{wordsIn}
 use Rattle.planning.specs.Solving.{refusedSolved, stoppedSolved, plannedSolved}
 use Rattle.planning.specs.Theorems.{Means}
 use Rattle.printing.specs.Printed.{planText, printed}

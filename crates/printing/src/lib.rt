@@ -2,9 +2,10 @@
 ghost use mathlib.Core.Path.{_≡_};
 ghost use Prim.Native.Nat.{_+_, _*_, _≤_, _<_};
 ghost use lib.ListN.{length, take};
+ghost use Rattle.fields.specs.Limits.{maxVariables};
 ghost use Rattle.text.specs.Putting.{Put};
 ghost use Rattle.sheet.specs.Sheet.{sheetSizes};
-ghost use Rattle.planning.specs.Words.{wordsIn};
+ghost use Rattle.littleendian.specs.Words.{wordsIn};
 ghost use Rattle.planning.specs.Solving.{bufferWords};
 ghost use Rattle.planning.specs.Theorems.{Means};
 ghost use Rattle.printing.specs.Printed.{metresTo, variableLines, planText, solvedText, printed};
@@ -21,7 +22,7 @@ pub struct Text {
 // Whole metres to a variable's value from the value of the variable before it; 0 for the first.
 fn metres_to(sheet: &[u32], plan: &[u8], v: usize) -> u32
     requires { ⌜ HoldsPlan (now sheet) (now plan) ⌝ }
-    requires { ⌜ (v < length (sheetSizes (now sheet))) × (v < 12) ⌝ }
+    requires { ⌜ (v < length (sheetSizes (now sheet))) × (v < maxVariables) ⌝ }
     ensures { λ r. ⌜ r ≡ metresTo (now (sheet .entry)) (now (plan .entry)) v ⌝ }
 {
     if v == 0 {
@@ -36,7 +37,7 @@ fn metres_to(sheet: &[u32], plan: &[u8], v: usize) -> u32
 // A line for each of the sheet's n variables.
 fn put_lines(sheet: &[u32], plan: &[u8], n: usize, out: &mut [u8], at: usize) -> usize
     requires { ⌜ HoldsPlan (now sheet) (now plan) ⌝ }
-    requires { ⌜ (n ≡ length (sheetSizes (now sheet))) × (n ≤ 12) × (at + 64 * n ≤ length (now out)) ⌝ }
+    requires { ⌜ (n ≡ length (sheetSizes (now sheet))) × (n ≤ maxVariables) × (at + 64 * n ≤ length (now out)) ⌝ }
     ensures { λ r. ⌜ Put (now (out .entry)) at (variableLines (now (sheet .entry)) (now (plan .entry)) 0 n) (now (out .exit)) r × (r ≤ at + 64 * n) ⌝ }
 {
     let mut end = at;
@@ -67,7 +68,7 @@ fn put_planned(bytes: &[u8], plan: &[u8], steps: usize, cost: u64, out: &mut [u8
     ensures { λ r. ⌜ Put (now (out .entry)) 0 (planText (wordsIn (now (bytes .entry))) (now (plan .entry)) steps cost) (now (out .exit)) r × (r ≤ 832) ⌝ }
 {
     let mut words = [0u32; planning::BUFFER_WORDS];
-    let n = planning::read_words(bytes, &mut words);
+    let n = littleendian::read_words(bytes, &mut words);
     put_plan(&words[..n], plan, steps, cost, out)
 }
 
@@ -91,7 +92,7 @@ fn put_solved(bytes: &[u8], solved: Solved, out: &mut [u8]) -> usize
 
 // The text for a sheet's bytes.
 pub fn plan_text(bytes: &[u8]) -> Text
-    ensures { λ r. ⌜ (take (r .length) (r .bytes) ≡ printed (now (bytes .entry))) × (r .length ≤ length (r .bytes)) ⌝ }
+    ensures returned { λ r. ⌜ (take (r .length) (r .bytes) ≡ printed (now (bytes .entry))) × (r .length ≤ length (r .bytes)) ⌝ }
 {
     let mut out = [0u8; 1024];
     let solved = planning::solve(bytes);

@@ -13,16 +13,15 @@ use Rattle.words.specs.declared.Coordinate.the-variants.{At, Outside}
 use Rattle.fields.specs.Limits.{maxVariables}
 use Rattle.fields.specs.Assignment.{isAssignment}
 use Rattle.fields.specs.Answers.{refused, good}
+use Rattle.fields.proofs.Padding.{sizes-taken, sizes-twelve}
 use Rattle.fields.proofs.Assigning.{in-range-of}
 use Rattle.distance.specs.Metres.{maxOffset}
 use Rattle.sheet.specs.declared.SheetRead.{SheetRead}
 use Rattle.sheet.specs.Sheet.{coordinateIn, sheetFault, sheetSizes}
-use Rattle.sheet.specs.Made.{travel}
-use Rattle.sheet.specs.Calls.{sheetCall, positionIn}
+use Rattle.sheet.specs.Calls.{sheetCall, positionIn, travel}
 use Rattle.sheet.proofs.Coordinates.{place-found, place-missed}
 use Rattle.sheet.proofs.Sheets.{GoodRead, good-read, bad-read}
 use Rattle.sheet.proofs.Acceptance.{accepted-sheet}
-use Rattle.sheet.proofs.Making.{sizes-taken, sizes-twelve}
 use Rattle.readout.specs.Calls.{readoutCall}
 
 module _ (sheet plan : List ℕ) (v easting northing : ℕ) (read : SheetRead) (r : read ≡ sheetCall sheet) where

@@ -8,8 +8,7 @@ use Rattle.fields.specs.declared.Answer.{Answer}
 use Rattle.fields.specs.Answers.{refused, good}
 use Rattle.fields.specs.Assignment.{isAssignment}
 use Rattle.sheet.specs.Sheet.{eastingKind, northingKind, isEasting, isNorthing, offsetOf, sheetFault, sheetSizes}
-use Rattle.sheet.specs.Made.{travel}
-use Rattle.sheet.specs.Calls.{positionIn}
+use Rattle.sheet.specs.Calls.{positionIn, travel}
 
 -- 1 to 5 for the sheet; 8 for a variable (document 01: station) that it lacks, a position out of range, or bytes that are no
 -- assignment; else the metres

@@ -4,8 +4,7 @@ ghost use Prim.Native.Nat.{_<_, _≤_};
 ghost use lib.ListN.{length, getD};
 ghost use Rattle.distance.specs.Metres.{maxOffset};
 ghost use Rattle.sheet.specs.Sheet.{sheetFault, sheetSizes};
-ghost use Rattle.sheet.specs.Made.{travel};
-ghost use Rattle.sheet.specs.Calls.{positionIn};
+ghost use Rattle.sheet.specs.Calls.{positionIn, travel};
 ghost use Rattle.readout.specs.Calls.{readoutCall};
 use fields::Answer;
 use sheet::points::EASTING;
@@ -26,7 +25,7 @@ fn metres_to(sheet: &[u32], variable: u32, value: u8, east: u32, north: u32) -> 
 
 // The sheet's fault; 8 for a variable that it lacks, a position out of range, or bytes that are no assignment; else the metres.
 pub fn readout(sheet: &[u32], plan: &[u8], variable: u32, easting: u32, northing: u32) -> Answer
-    ensures { λ r. ⌜ r ≡ readoutCall (now (sheet .entry)) (now (plan .entry)) variable easting northing ⌝ }
+    ensures returned { λ r. ⌜ r ≡ readoutCall (now (sheet .entry)) (now (plan .entry)) variable easting northing ⌝ }
 {
     let read = sheet::read_sheet(sheet);
     if read.number != 0 {

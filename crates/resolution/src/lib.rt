@@ -39,7 +39,7 @@ pub struct RunAnswer {
 
 // One step call: 9; done; 11; 12; else one step.
 pub fn step(t: &mut [u32]) -> StepAnswer
-    ensures { λ r. ⌜ record { answer = r; table = now (t .exit) } ≡ stepCall (now (t .entry)) ⌝ }
+    ensures returned { λ r. ⌜ record { answer = r; table = now (t .exit) } ≡ stepCall (now (t .entry)) ⌝ }
 {
     let checked = table::check(t);
     let Checked::Table(shape) = checked else {
@@ -132,7 +132,7 @@ fn run_valid(t: &mut [u32], shape: Shape, most: usize, slice: &mut [u32]) -> Run
 
 // A run: single steps, tested before each: done, paused, 11, 12. It tests the table once, and each hunt goes on where the last one ended.
 pub fn run(t: &mut [u32], limit: usize, slice: &mut [u32]) -> RunAnswer
-    ensures { λ r. ⌜ record { answer = r; table = now (t .exit); slice = now (slice .exit) } ≡ runCall (now (t .entry)) limit (now (slice .entry)) ⌝ }
+    ensures returned { λ r. ⌜ record { answer = r; table = now (t .exit); slice = now (slice .exit) } ≡ runCall (now (t .entry)) limit (now (slice .entry)) ⌝ }
 {
     let checked = table::check(t);
     let Checked::Table(shape) = checked else {

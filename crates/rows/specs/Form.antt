@@ -21,6 +21,8 @@ unfoldable pub rawsFromIn : (f : Form) → ℕ → List ℕ → List (f .Raw)
 rawsFromIn f zero ws = []
 rawsFromIn f (suc k) ws = f .read ws 0 ∷ rawsFromIn f k (drop (f .width) ws)
 
+-- ---- for inner contracts
+
 -- t is a front of base words, these raw rows, and zeros
 pub record LaidIn (f : Form) (t : List ℕ) (base : ℕ) (rs : List (f .Raw)) : Type 0 where
   pub fits : base + f .width * length rs ≤ length t

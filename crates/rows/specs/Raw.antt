@@ -26,9 +26,6 @@ pub record Raw : Type 0 where
   pub d : ℕ
   pub w : ℕ
 
-abbrev pub noRaw : Raw
-noRaw = record { a = 0; b = 0; c = 0; d = 0; w = 0 }
-
 -- the words of a raw row, and the raw row whose words start at a place
 abbrev pub rawWords : Raw → List ℕ
 rawWords r = r .a ∷ r .b ∷ r .c ∷ r .d ∷ r .w ∷ []
@@ -37,23 +34,8 @@ unfoldable pub rawAt : List ℕ → ℕ → Raw
 rawAt t at =
     record { a = getD t at 0; b = getD t (at + 1) 0; c = getD t (at + 2) 0; d = getD t (at + 3) 0; w = getD t (at + 4) 0 }
 
--- ---- tables of these rows
-
 abbrev pub rowForm : Form
 rowForm = record { Raw = Raw; width = rowWidth; words = rawWords; read = rawAt }
-
-abbrev pub rawsFrom : ℕ → List ℕ → List Raw
-rawsFrom k ws = rawsFromIn rowForm k ws
-
--- the raw rows of a table whose rows start at base
-abbrev pub rawsIn : List ℕ → ℕ → ℕ → List Raw
-rawsIn t base count = rawsFrom count (drop base t)
-
-abbrev pub Laid : List ℕ → ℕ → List Raw → Type 0
-Laid t base rs = LaidIn rowForm t base rs
-
-abbrev pub Left : List ℕ → ℕ → List ℕ → List Raw → Type 0
-Left t base t′ rs = LeftIn rowForm t base t′ rs
 
 -- ---- the weight and the clause of a raw row
 
@@ -85,7 +67,23 @@ rawRow x weight = weighing (signWords (signsWord 0 (x .a)) (signsWord 1 (x .b)) 
 abbrev pub clauseIn : Raw → Clause
 clauseIn r = record { a = r .a % 16777216; b = r .b % 16777216; c = r .c % 16777216; d = r .d % 16777216 }
 
--- ---- lists of raw rows
+-- ---- for inner contracts
+
+abbrev pub noRaw : Raw
+noRaw = record { a = 0; b = 0; c = 0; d = 0; w = 0 }
+
+abbrev pub rawsFrom : ℕ → List ℕ → List Raw
+rawsFrom k ws = rawsFromIn rowForm k ws
+
+-- the raw rows of a table whose rows start at base
+abbrev pub rawsIn : List ℕ → ℕ → ℕ → List Raw
+rawsIn t base count = rawsFrom count (drop base t)
+
+abbrev pub Laid : List ℕ → ℕ → List Raw → Type 0
+Laid t base rs = LaidIn rowForm t base rs
+
+abbrev pub Left : List ℕ → ℕ → List ℕ → List Raw → Type 0
+Left t base t′ rs = LeftIn rowForm t base t′ rs
 
 -- two raw rows have the same sign words
 unfoldable pub sameSigns : Raw → Raw → Bool

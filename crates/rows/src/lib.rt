@@ -156,7 +156,7 @@ pub fn reweigh(t: &mut [u32], base: usize, count: usize, k: usize, weight: u64)
 // A clause added to the rows: its weight goes to the row with its signs, else to a new last row; weight 0 adds nothing. Answers the number of rows.
 pub fn add(t: &mut [u32], base: usize, count: usize, x: Clause, weight: u64) -> usize
     requires { ⌜ Addable (now t) base count x weight ⌝ }
-    ensures { λ r. ⌜ Left (now (t .entry)) base (now (t .exit)) (added (rawsIn (now (t .entry)) base count) x weight) × (r ≡ length (added (rawsIn (now (t .entry)) base count) x weight)) ⌝ }
+    ensures { λ r. ⌜ (let rows = added (rawsIn (now (t .entry)) base count) x weight in Left (now (t .entry)) base (now (t .exit)) rows × (r ≡ length rows)) ⌝ }
 {
     if weight == 0 {
         return count;

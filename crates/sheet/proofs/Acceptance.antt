@@ -12,10 +12,10 @@ use Rattle.words.specs.Layout.{payloadOf}
 use Rattle.fields.specs.Front.{sizeIn}
 use Rattle.fields.specs.Entries.{Each, nilEach, consEach, EachSize}
 use Rattle.fields.proofs.Sizes.{field-sizes}
-use Rattle.input.specs.Instance.{entriesFault}
+use Rattle.entries.specs.Entries.{entriesFault}
+use Rattle.entries.proofs.Accepting.{entries-accepted}
 use Rattle.input.proofs.Sizes.{withSize, size-payload}
 use Rattle.input.proofs.Validating.{Headed, headed-bounds, headed-payload, headed-by}
-use Rattle.input.proofs.Accepting.{entries-accepted}
 use Rattle.input.proofs.Acceptance.{passed}
 use Rattle.sheet.specs.Sheet.{legCount, sheetStationsFault, sheetFault, pointsFrom, stationsFrom, positionsOf, sheetSizes, entryWordsOf}
 use Rattle.sheet.specs.Phases.{goodPositions, goodStations}

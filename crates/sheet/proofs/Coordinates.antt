@@ -1,5 +1,5 @@
 -- A sheet's coordinates: the coordinate of one word, and the positions of a variable's values.
-use Prim.Native.Nat.{ℕ, _-_, _≤_}
+use Prim.Native.Nat.{ℕ, _≤_}
 use native.Mathlib.Omega.{arith}
 use mathlib.Core.Path.{_≡_, refl, sym, _∙_}
 use mathlib.Core.Bool.{Bool, true, false, cond, false≢true}
@@ -12,7 +12,7 @@ use Rattle.words.specs.declared.Coordinate.the-variants.{At, Outside}
 use Rattle.words.specs.Layout.{kindOf, payloadOf}
 use Rattle.words.specs.Meaning.{coordinateOf}
 use Rattle.words.proofs.Coordinates.{coordinate-inverse}
-use Rattle.input.specs.Phases.{nextOf, nextBy}
+use Rattle.reader.specs.Next.{nextOf, nextBy}
 use Rattle.sheet.specs.Sheet.{coordinateIn, isPlace, offsetIn, offsetOf}
 use Rattle.sheet.specs.Phases.{placeNext}
 

@@ -6,7 +6,8 @@ use mathlib.Core.List.{List, [], _∷_, _++_}
 use mathlib.Core.Option.{Option, none, some}
 use lib.Dec.{eqb}
 use Rattle.fields.specs.Front.{headIn, headed, sizeIn}
-use Rattle.input.proofs.Faults.{entries-small, cond-small}
+use Rattle.entries.proofs.Faults.{entries-small}
+use Rattle.input.proofs.Faults.{cond-small}
 use Rattle.sheet.specs.Sheet.{isEasting, isNorthing, legCount, sheetStationsFault, sheetFault}
 
 stations-small : (k m : ℕ) (sizes ws : List ℕ) → sheetStationsFault k m sizes ws ≤ 5

@@ -6,12 +6,6 @@ pub mod OneStation
 pub mod Sheets
 pub mod Acceptance
 pub mod Fitting
-pub mod GoodLegs
-pub mod Reading
-mod Walking
-mod Writing
-pub mod Making
-pub mod MakeTests
+pub mod Walking
 pub mod Faults
 pub mod Placed
-pub mod Order

@@ -9,8 +9,9 @@ use lib.Seq.{drop-drop}
 use borrow.Author.Tests.{ne-eqb}
 use Rattle.fields.specs.Limits.{maxVariables, maxValues}
 use Rattle.fields.specs.Front.{sizeIn}
-use Rattle.input.specs.declared.Got.the-variants.{Fault}
-use Rattle.input.specs.Phases.{nextOf, nextBy, sizeNext, refusedStations}
+use Rattle.reader.specs.Next.{nextOf, nextBy}
+use Rattle.entries.specs.declared.Got.the-variants.{Fault}
+use Rattle.input.specs.Phases.{sizeNext, refusedStations}
 use Rattle.input.proofs.Filling.{Filling, filling-start, filling-step, filling-end}
 use Rattle.input.proofs.Sizes.{Sized, withSize, sized-bounds, size-payload, size-fault}
 use Rattle.sheet.specs.Sheet.{pointsFrom, stationsFrom, behindStations}

@@ -10,10 +10,11 @@ use borrow.Author.Tests.{eq-eqb, ne-eqb}
 use Rattle.words.specs.declared.Coordinate.{Coordinate}
 use Rattle.words.specs.declared.Coordinate.the-variants.{At, Outside}
 use Rattle.fields.specs.Limits.{maxVariables, maxValues}
-use Rattle.input.specs.declared.Next.the-variants.{End}
-use Rattle.input.specs.declared.Got.{Got}
-use Rattle.input.specs.declared.Got.the-variants.{Number, Fault}
-use Rattle.input.specs.Phases.{nextOf, nextBy, sizeGot, sizeNext, refusedStations}
+use Rattle.reader.specs.declared.word.Next.the-variants.{End}
+use Rattle.reader.specs.Next.{nextOf, nextBy}
+use Rattle.entries.specs.declared.Got.{Got}
+use Rattle.entries.specs.declared.Got.the-variants.{Number, Fault}
+use Rattle.input.specs.Phases.{sizeGot, sizeNext, refusedStations}
 use Rattle.input.proofs.Sizes.{Sized, sized-of, size-of-word, size-two}
 use Rattle.sheet.specs.declared.Ahead.{Ahead}
 use Rattle.sheet.specs.declared.Ahead.the-variants.{Station, Places, Read, Stops}

@@ -9,9 +9,8 @@ use Rattle.fields.specs.Entries.{Each, nilEach, consEach}
 use Rattle.sheet.specs.declared.Place.{Place}
 use Rattle.sheet.specs.Sheet.{sheetFault}
 use Rattle.sheet.specs.Accepted.{PlacedPoint}
-use Rattle.sheet.specs.Made.{travel}
 use Rattle.sheet.specs.Places.{pointOf}
-use Rattle.sheet.specs.Calls.{positionIn}
+use Rattle.sheet.specs.Calls.{positionIn, travel}
 use Rattle.sheet.proofs.Acceptance.{accepted-sheet}
 
 each-at : {A : Type 0} {P : A → Type 0} {xs : List A} {d : A} → Each P xs → P d → (i : ℕ) → P (getD xs i d)

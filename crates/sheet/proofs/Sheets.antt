@@ -15,14 +15,15 @@ use Rattle.fields.specs.Front.{sizeIn}
 use Rattle.fields.specs.Padding.{padded}
 use Rattle.fields.proofs.Padding.{padded-length, padded-front}
 use Rattle.fields.proofs.Faults.{no-fault, some-fault}
-use Rattle.input.specs.declared.Got.{Got}
-use Rattle.input.specs.declared.Got.the-variants.{Number, Fault}
+use Rattle.reader.specs.Next.{nextOf, nextBy}
+use Rattle.entries.specs.declared.Got.{Got}
+use Rattle.entries.specs.declared.Got.the-variants.{Number, Fault}
+use Rattle.entries.specs.Entries.{entriesFault}
+use Rattle.entries.specs.Scan.{scanGot}
+use Rattle.entries.proofs.Scanning.{got-fault, got-number}
 use Rattle.input.specs.declared.Stations.{Stations}
-use Rattle.input.specs.Instance.{entriesFault}
-use Rattle.input.specs.Phases.{nextOf, nextBy, headNext}
-use Rattle.input.specs.Scan.{scanGot}
+use Rattle.input.specs.Phases.{headNext}
 use Rattle.input.proofs.Sizes.{withSize, stations-taken, stations-refused}
-use Rattle.input.proofs.Scanning.{got-fault, got-number}
 use Rattle.input.proofs.Validating.{Headed, withHead, headed-bounds, headed-payload, head-one, headless}
 use Rattle.sheet.specs.declared.SheetRead.{SheetRead}
 use Rattle.sheet.specs.Sheet.{isEasting, isNorthing, legCount, sheetStationsFault, sheetFault, stationsFrom, behindStations, sheetSizes, entryWordsOf}

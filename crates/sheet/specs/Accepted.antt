@@ -1,4 +1,4 @@
--- What an accepted sheet is known to be.
+-- Inner: what an accepted sheet is known to be, for the functions that read its words again; no statement for users rests on it.
 use Prim.Native.Nat.{ℕ, _-_, _*_, _≤_}
 use mathlib.Core.Path.{_≡_}
 use mathlib.Core.List.{List, []}
@@ -7,7 +7,7 @@ use Rattle.words.specs.Layout.{payloadOf}
 use Rattle.distance.specs.Metres.{maxOffset}
 use Rattle.fields.specs.Limits.{maxVariables, maxValues}
 use Rattle.fields.specs.Entries.{Each, FieldSizes, Entries, entriesFrom}
-use Rattle.input.specs.Instance.{entriesFault}
+use Rattle.entries.specs.Entries.{entriesFault}
 use Rattle.sheet.specs.Sheet.{Point, legCount, positionsOf, sheetSizes, entryWordsOf}
 
 -- the most legs of a sheet: eleven times eight by eight

@@ -8,11 +8,12 @@ use Rattle.fields.specs.Front.{sizeIn}
 use Rattle.fields.specs.Padding.{padded}
 use Rattle.words.specs.declared.Coordinate.{Coordinate}
 use Rattle.words.specs.declared.Coordinate.the-variants.{At, Outside}
-use Rattle.input.specs.declared.Next.{Next}
-use Rattle.input.specs.declared.Got.{Got}
-use Rattle.input.specs.declared.Got.the-variants.{Number, Fault}
+use Rattle.reader.specs.declared.word.Next.{Next}
+use Rattle.reader.specs.Next.{nextOf, nextBy}
+use Rattle.entries.specs.declared.Got.{Got}
+use Rattle.entries.specs.declared.Got.the-variants.{Number, Fault}
 use Rattle.input.specs.declared.Stations.{Stations}
-use Rattle.input.specs.Phases.{nextOf, nextBy, sizeGot, sizeNext, refusedStations}
+use Rattle.input.specs.Phases.{sizeGot, sizeNext, refusedStations}
 use Rattle.sheet.specs.declared.Ahead.{Ahead}
 use Rattle.sheet.specs.declared.Ahead.the-variants.{Station, Places, Read, Stops}
 use Rattle.sheet.specs.Sheet.{eastingKind, northingKind, isPlace, coordinateIn, stationsFrom, behindStations}

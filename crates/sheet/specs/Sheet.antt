@@ -9,7 +9,7 @@ use Rattle.words.specs.declared.Coordinate.the-variants.{At, Outside}
 use Rattle.words.specs.Layout.{kindOf, payloadOf}
 use Rattle.words.specs.Meaning.{coordinateOf}
 use Rattle.fields.specs.Front.{headIn, headed, sizeIn}
-use Rattle.input.specs.Instance.{entriesFault}
+use Rattle.entries.specs.Entries.{entriesFault}
 
 -- a position, its coordinates in centimetres counted from -1,000,000
 pub record Point : Type 0 where

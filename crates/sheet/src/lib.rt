@@ -1,19 +1,14 @@
-// Sheets, read in one pass as instances are, the positions of their values, and the instance made from one.
-mod legs;
+// Sheets, read in one pass as instances are, and the positions of their values.
 pub mod points;
-mod stations;
+pub mod stations;
 
-use fields::Answer;
+use entries::Got;
 use fields::MAX_VARIABLES;
-use input::Got;
 ghost use mathlib.Core.Path.{_≡_};
-ghost use Prim.Native.Nat.{_+_, _-_, _<_, _≤_};
-ghost use lib.ListN.{length, getD, drop};
-ghost use lib.Seq.{sets};
-ghost use Rattle.fields.specs.Padding.{padded};
-ghost use Rattle.sheet.specs.Sheet.{sheetFault, sheetSizes, entryWordsOf};
-ghost use Rattle.sheet.specs.Made.{madeWords};
-ghost use Rattle.sheet.specs.Calls.{refusedSheet, sheetCall, makeCall, positionIn};
+ghost use Prim.Native.Nat.{_<_};
+ghost use lib.ListN.{length, getD};
+ghost use Rattle.sheet.specs.Sheet.{sheetFault, sheetSizes};
+ghost use Rattle.sheet.specs.Calls.{refusedSheet, sheetCall, positionIn};
 ghost use Rattle.sheet.specs.Places.{pointOf};
 
 // A sheet's number (0: accepted), its variables, the index of its first entry word, and the sizes of twelve variables,
@@ -42,11 +37,11 @@ pub enum Ahead {
 
 // The test of a sheet: 1 to 5, or its variables, where its entries start, and its sizes.
 pub fn read_sheet(words: &[u32]) -> SheetRead
-    ensures { λ r. ⌜ r ≡ sheetCall (now (words .entry)) ⌝ }
+    ensures returned { λ r. ⌜ r ≡ sheetCall (now (words .entry)) ⌝ }
 {
     let head = input::front::read_head(words);
     let Got::Number(n) = head else {
-        return refused_sheet(input::fault_in(head));
+        return refused_sheet(entries::fault_in(head));
     };
     let read = stations::read_stations(words, n as usize);
     if read.number != 0 {
@@ -55,9 +50,9 @@ pub fn read_sheet(words: &[u32]) -> SheetRead
     let sizes = read.sizes;
     let at = read.behind;
     let legs = stations::count_legs(&sizes, n as usize);
-    let got = input::entries::scan_entries(words, at, &sizes, n as usize, legs);
+    let got = entries::scan_entries(words, at, &sizes, n as usize, legs);
     let Got::Number(_) = got else {
-        return refused_sheet(input::fault_in(got));
+        return refused_sheet(entries::fault_in(got));
     };
     SheetRead {
         number: 0,
@@ -92,55 +87,4 @@ pub fn position(sheet: &[u32], variable: u32, value: u32) -> Place
         v += 1;
     }
     points::place_at(sheet, from + 1 + 2 * value as usize)
-}
-
-// The sheet's words from an index to the end, copied.
-fn copy_words(sheet: &[u32], from: usize, target: &mut [u32], at: usize)
-    requires { do ⌜ (from ≤ (← ⟦sheet.len()⟧)) × (at + ((← ⟦sheet.len()⟧) - from) ≤ (← ⟦target.len()⟧)) ⌝ }
-    ensures { λ _. ⌜ now (target .exit) ≡ sets (now (target .entry)) at (drop from (now (sheet .entry))) ⌝ }
-{
-    let mut j = from;
-    let mut o = at;
-    while j < sheet.len() {
-        target[o] = sheet[j];
-        j += 1;
-        o += 1;
-    }
-}
-
-// The instance made from an accepted sheet, in front of a target that it fits into.
-fn write_instance(
-    sheet: &[u32],
-    sizes: &[u8; MAX_VARIABLES],
-    n: usize,
-    entries: usize,
-    target: &mut [u32],
-)
-    requires { ⌜ sheetFault (now sheet) ≡ 0 ⌝ }
-    requires { do ⌜ (now sizes ≡ padded (sheetSizes (now sheet))) × (n ≡ length (sheetSizes (now sheet))) × (entries ≡ length (now sheet) - length (entryWordsOf (now sheet))) × (length (madeWords (now sheet)) ≤ (← ⟦target.len()⟧)) ⌝ }
-    ensures { λ _. ⌜ now (target .exit) ≡ sets (now (target .entry)) 0 (madeWords (now (sheet .entry))) ⌝ }
-{
-    fields::write_front(target, sizes, n);
-    let behind = legs::write_legs(sheet, n, target, n + 1);
-    copy_words(sheet, entries, target, behind);
-}
-
-// Makes the instance of a sheet: 1 to 5, then 10, before the first write.
-pub fn make(sheet: &[u32], target: &mut [u32]) -> Answer
-    ensures { λ r. ⌜ record { answer = r; target = now (target .exit) } ≡ makeCall (now (sheet .entry)) (now (target .entry)) ⌝ }
-{
-    let read = read_sheet(sheet);
-    let number = read.number;
-    if number != 0 {
-        return fields::refusal(number);
-    }
-    let sizes = read.sizes;
-    let n = read.variables as usize;
-    let entries = read.entries_at;
-    let long = 1 + n + 3 * stations::count_legs(&sizes, n) as usize + (sheet.len() - entries);
-    if target.len() < long {
-        return fields::refusal(10);
-    }
-    write_instance(sheet, &sizes, n, entries, target);
-    fields::success(long as u64)
 }

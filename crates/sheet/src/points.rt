@@ -3,7 +3,7 @@ use crate::Place;
 use words::Coordinate;
 ghost use mathlib.Core.Path.{_≡_};
 ghost use Prim.Native.Nat.{_+_, _<_, _≤_};
-ghost use lib.ListN.{getD};
+ghost use lib.ListN.{length, getD};
 ghost use Rattle.distance.specs.Metres.{maxOffset};
 ghost use Rattle.words.specs.Layout.{payloadOf};
 ghost use Rattle.sheet.specs.Sheet.{coordinateIn, offsetOf};
@@ -42,7 +42,7 @@ fn offset(kind: u32, w: u32) -> u32
 }
 
 pub fn place_at(sheet: &[u32], at: usize) -> Place
-    requires { do ⌜ at + 2 ≤ (← ⟦sheet.len()⟧) ⌝ }
+    requires { ⌜ at + 2 ≤ length (now sheet) ⌝ }
     ensures { λ r. ⌜ (pointOf r ≡ pointAt (now (sheet .entry)) at) × PlacedPoint (pointOf r) ⌝ }
 {
     let east = offset(EASTING, sheet[at]);
@@ -55,7 +55,7 @@ pub fn place_at(sheet: &[u32], at: usize) -> Place
 
 // The values of the station whose size word stands at an index.
 pub fn values_at(sheet: &[u32], from: usize) -> Values
-    requires { do ⌜ from < (← ⟦sheet.len()⟧) ⌝ }
+    requires { ⌜ from < length (now sheet) ⌝ }
     ensures { λ r. ⌜ (r .at ≡ from + 1) × (r .size ≡ payloadOf (getD (now (sheet .entry)) from 0)) × (r .size < 268435456) ⌝ }
 {
     let size = words::payload(sheet[from]);

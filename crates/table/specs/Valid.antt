@@ -35,12 +35,6 @@ validSigns [] c = true
 validSigns (d ∷ ds) [] = true
 validSigns (d ∷ ds) (S ∷ c) = ltb S (full d) && validSigns ds c
 
--- each element lies below the one beside it
-unfoldable pub allBelow : List ℕ → List ℕ → Bool
-allBelow [] y = true
-allBelow (S ∷ x) [] = true
-allBelow (S ∷ x) (T ∷ y) = ltb S T && allBelow x y
-
 -- the words in front are a row's: sign words, the weight's words, and signs in range
 unfoldable pub validRowIn : TableForm → List ℕ → List ℕ → Bool
 unfolding signKinds validSigns
@@ -97,11 +91,19 @@ validTableIn f t =
 
 -- ---- in the form that every table has
 
+abbrev pub validTable : List ℕ → Bool
+validTable t = validTableIn standardForm t
+
+-- ---- for inner contracts
+
+-- each element lies below the one beside it
+unfoldable pub allBelow : List ℕ → List ℕ → Bool
+allBelow [] y = true
+allBelow (S ∷ x) [] = true
+allBelow (S ∷ x) (T ∷ y) = ltb S T && allBelow x y
+
 abbrev pub validRow : List ℕ → List ℕ → Bool
 validRow ds ws = validRowIn standardForm ds ws
 
 abbrev pub rowsValid : List ℕ → ℕ → List ℕ → Bool
 rowsValid ds k ws = rowsValidIn standardForm ds k ws
-
-abbrev pub validTable : List ℕ → Bool
-validTable t = validTableIn standardForm t

@@ -220,7 +220,7 @@ fn read_fulls(t: &[u32], n: usize) -> Fulls
 
 // The test of a whole slice: valid exactly as document 01 says.
 pub fn check(t: &[u32]) -> Checked
-    ensures { λ r. ⌜ r ≡ checkTable (now (t .entry)) ⌝ }
+    ensures returned { λ r. ⌜ r ≡ checkTable (now (t .entry)) ⌝ }
 {
     if t.len() == 0 {
         return Checked::Invalid;

@@ -2,7 +2,7 @@
 use borrow.Author.Needs.{needs}
 use mathlib.Core.Path.{refl}
 use mathlib.Core.List.{[], _∷_}
-use Rattle.sheet.specs.Calls.{Made}
+use Rattle.making.specs.Calls.{Made}
 use Rattle.gotalhim.proofs.Telling.{told}
 use Rattle.gotalhim.proofs.gotalhim_make.Statement.{statement}
 use Rattle.gotalhim.proofs.gotalhim_make.Tie as tie

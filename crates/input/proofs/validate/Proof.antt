@@ -1,7 +1,8 @@
 -- `validate` answers for the whole from the answers of its phases: one law for each way out.
 use borrow.Author.Needs.{needs}
 use mathlib.Core.Path.{sym, ap, _∙_}
-use Rattle.input.specs.Calls.{refusedInstance, faultIn}
+use Rattle.entries.specs.Scan.{faultIn}
+use Rattle.input.specs.Calls.{refusedInstance}
 use Rattle.input.proofs.Validating.{headed-of, headed-bounds, no-head, sizes-broken, entries-within, scan-broken, scan-good}
 use Rattle.input.proofs.validate.Statement.{statement}
 use Rattle.input.proofs.validate.Tie as tie
@@ -52,8 +53,6 @@ validate-spec =
     read-sizes-requires
     (λ c κs. search needs)
     returns-2
-    (λ c. search needs)
-    (λ c. search needs)
     (λ c. search needs)
     scan-entries-requires
     (λ c. search needs)

@@ -4,7 +4,7 @@ use mathlib.Core.Path.{sym}
 use lib.Seq.{length-take-le}
 use denote.Ref.{now}
 use borrow.Author.Needs.{needs}
-use Rattle.sheet.proofs.MakeTests.{MadeIn}
+use Rattle.making.proofs.MakeTests.{MadeIn}
 use Rattle.planning.proofs.Solving.{sheet-made, sheet-refused, sheet-run}
 use Rattle.planning.proofs.solve_in.Statement.{statement}
 use Rattle.planning.proofs.solve_in.Tie as tie

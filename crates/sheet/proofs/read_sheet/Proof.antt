@@ -1,7 +1,7 @@
 -- `read_sheet` answers for the whole from the answers of its phases: one law for each way out.
 use borrow.Author.Needs.{needs}
 use mathlib.Core.Path.{sym, ap, _∙_}
-use Rattle.input.specs.Calls.{faultIn}
+use Rattle.entries.specs.Scan.{faultIn}
 use Rattle.sheet.specs.Calls.{refusedSheet}
 use Rattle.input.proofs.Validating.{headed-of, headed-bounds}
 use Rattle.sheet.proofs.Sheets.{no-head, stations-broken, entries-within, sizes-long, scan-broken, scan-good}

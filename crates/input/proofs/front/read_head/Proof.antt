@@ -2,7 +2,8 @@
 use borrow.Author.Needs.{needs}
 use native.Mathlib.Omega.{arith}
 use Rattle.words.proofs.Others.{no-head}
-use Rattle.input.proofs.Reading.{by-end, by-word, head-other, head-low, head-high, head-good}
+use Rattle.reader.proofs.Reading.{by-end, by-word}
+use Rattle.input.proofs.Reading.{head-other, head-low, head-high, head-good}
 use Rattle.input.proofs.front.read_head.Statement.{statement}
 use Rattle.input.proofs.front.read_head.Tie as tie
 

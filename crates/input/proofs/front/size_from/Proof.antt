@@ -1,7 +1,7 @@
 -- `size_from` answers the number that the next word gives, or 2 where the words end.
 use borrow.Author.Needs.{needs}
 use mathlib.Core.Path.{refl}
-use Rattle.input.proofs.Reading.{by-end, by-word}
+use Rattle.reader.proofs.Reading.{by-end, by-word}
 use Rattle.input.proofs.front.size_from.Statement.{statement}
 use Rattle.input.proofs.front.size_from.Tie as tie
 

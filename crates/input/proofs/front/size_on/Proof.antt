@@ -2,7 +2,7 @@
 use borrow.Author.Needs.{needs}
 use native.Mathlib.Omega.{arith}
 use mathlib.Core.Path.{ap, _∙_}
-use Rattle.input.specs.Calls.{faultIn}
+use Rattle.entries.specs.Scan.{faultIn}
 use Rattle.input.specs.Phases.{stoppedSizing}
 use Rattle.input.proofs.Sizes.{size-more, size-stops, size-range}
 use Rattle.input.proofs.front.size_on.Statement.{statement}

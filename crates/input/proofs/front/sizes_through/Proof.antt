@@ -37,27 +37,28 @@ use denote.Triple.Table.{entered, cited}
 use denote.Triple.Walked.{says, needs, Stays, stay-none, stay-none-slice, walkOf, goes-none, goes-none-slice, Walks, ends-at, walked, walk-meets}
 use denote.Exit.{yes}
 use Rattle.fields.specs.Limits.{maxVariables}
-use Rattle.input.specs.Phases.{nextOf, sizesLeft, sizeOn, sizingOf}
-use Rattle.input.specs.declared.Next.{Next}
+use Rattle.reader.specs.Next.{nextOf}
+use Rattle.reader.specs.declared.word.Next.{Next}
+use Rattle.reader.proofs.Carried.{lentWords, wordsVal, indexVal}
+use Rattle.reader.proofs.Walking.{Making, Asking, Moving, WordsOwn}
+use Rattle.reader.proofs.Turning.{Turn}
+use Rattle.reader.proofs.Carrying.{Plainly, plainly, begins}
+use Rattle.reader.proofs.word.Next as answer
+use Rattle.reader.proofs.word.Next.Laws as answer-laws
+use Rattle.reader.proofs.come_to.Symbol as making-symbol
+use Rattle.reader.proofs.come_to.Symbol.{name as #come-to}
+use Rattle.reader.proofs.come_to.Met as making-theorem
+use Rattle.reader.proofs.next.Symbol as asking-symbol
+use Rattle.reader.proofs.next.Symbol.{name as #next}
+use Rattle.reader.proofs.next.Met as asking-theorem
+use Rattle.reader.proofs.moved.Symbol as moving-symbol
+use Rattle.reader.proofs.moved.Symbol.{name as #moved}
+use Rattle.reader.proofs.moved.Met as moving-theorem
+use Rattle.input.specs.Phases.{sizesLeft, sizeOn, sizingOf}
 use Rattle.input.specs.declared.Sizing.{Sizing}
-use Rattle.input.proofs.Carried.{lentWords, wordsVal, indexVal}
 use Rattle.input.proofs.Sizes.{SizesFine, fine-start, fine-on, fine-room, fine-end, left-ends}
-use Rattle.input.proofs.Walking.{Making, Asking, Moving, WordsOwn}
-use Rattle.input.proofs.Turning.{Turn}
-use Rattle.input.proofs.Carrying.{Plainly, plainly, begins}
-use Rattle.input.proofs.Next as answer
-use Rattle.input.proofs.Next.Laws as answer-laws
 use Rattle.input.proofs.Sizing as sizing
 use Rattle.input.proofs.Sizing.Laws as sizing-laws
-use Rattle.input.proofs.reader.come_to.Symbol as making-symbol
-use Rattle.input.proofs.reader.come_to.Symbol.{name as #come-to}
-use Rattle.input.proofs.reader.come_to.Met as making-theorem
-use Rattle.input.proofs.reader.next.Symbol as asking-symbol
-use Rattle.input.proofs.reader.next.Symbol.{name as #next}
-use Rattle.input.proofs.reader.next.Met as asking-theorem
-use Rattle.input.proofs.reader.moved.Symbol as moving-symbol
-use Rattle.input.proofs.reader.moved.Symbol.{name as #moved}
-use Rattle.input.proofs.reader.moved.Met as moving-theorem
 use Rattle.input.proofs.front.sizes_left as testing
 use Rattle.input.proofs.front.sizes_left.Symbol as testing-symbol
 use Rattle.input.proofs.front.sizes_left.Symbol.{name as #goes}
@@ -195,8 +196,8 @@ sizes-through-spec 𝓤 H 𝓜 𝓖 𝓡 =
     entered 𝓤 H (tripleOf 𝓤 H (𝓖 .A) through.signature (through.spec 𝓤 H (𝓖 .A) (𝓜 .mem) (𝓡 .run))) (tables 𝓤 H 𝓜 𝓡 code.env .C)
     (tables 𝓤 H 𝓜 𝓡 code.env .Λ) #through code.function (code.unfolded 𝓤 H 𝓜 𝓡)
     (meets 𝓤 H (𝓖 .A) (givenOf 𝓤 H 𝓜 𝓖) (𝓜 .mem) (𝓡 .run) (tablesOf 𝓤 H 𝓜 (tables 𝓤 H 𝓜 𝓡 code.env))
-    (cited 𝓤 H (Making 𝓤 H (𝓖 .A) (𝓜 .mem) (𝓡 .run)) 𝓜 𝓡 code.env #come-to making-symbol.routine code.calls-input·reader·come-to (making-theorem.met 𝓤 H 𝓜 𝓖 𝓡))
-    (cited 𝓤 H (Asking 𝓤 H (𝓖 .A) (𝓜 .mem) (𝓡 .run)) 𝓜 𝓡 code.env #next asking-symbol.routine code.calls-input·reader·next (asking-theorem.met 𝓤 H 𝓜 𝓖 𝓡))
-    (cited 𝓤 H (Moving 𝓤 H (𝓖 .A) (𝓜 .mem) (𝓡 .run)) 𝓜 𝓡 code.env #moved moving-symbol.routine code.calls-input·reader·moved (moving-theorem.met 𝓤 H 𝓜 𝓖 𝓡))
+    (cited 𝓤 H (Making 𝓤 H (𝓖 .A) (𝓜 .mem) (𝓡 .run)) 𝓜 𝓡 code.env #come-to making-symbol.routine code.calls-reader·come-to (making-theorem.met 𝓤 H 𝓜 𝓖 𝓡))
+    (cited 𝓤 H (Asking 𝓤 H (𝓖 .A) (𝓜 .mem) (𝓡 .run)) 𝓜 𝓡 code.env #next asking-symbol.routine code.calls-reader·next (asking-theorem.met 𝓤 H 𝓜 𝓖 𝓡))
+    (cited 𝓤 H (Moving 𝓤 H (𝓖 .A) (𝓜 .mem) (𝓡 .run)) 𝓜 𝓡 code.env #moved moving-symbol.routine code.calls-reader·moved (moving-theorem.met 𝓤 H 𝓜 𝓖 𝓡))
     (cited 𝓤 H (Testing 𝓤 H (𝓖 .A) (𝓜 .mem) (𝓡 .run)) 𝓜 𝓡 code.env #goes testing-symbol.routine code.calls-input·front·sizes-left (testing-theorem.met 𝓤 H 𝓜 𝓖 𝓡))
     (cited 𝓤 H (Changing 𝓤 H (𝓖 .A) (𝓜 .mem) (𝓡 .run)) 𝓜 𝓡 code.env #on changing-symbol.routine code.calls-input·front·size-on (changing-theorem.met 𝓤 H 𝓜 𝓖 𝓡)))

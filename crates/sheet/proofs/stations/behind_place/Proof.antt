@@ -1,7 +1,7 @@
 -- `behind_place` answers the coordinate words to come: one fewer, none behind the last, or stops at the fault.
 use borrow.Author.Needs.{needs}
 use mathlib.Core.Path.{ap, _∙_}
-use Rattle.input.specs.Calls.{faultIn}
+use Rattle.entries.specs.Scan.{faultIn}
 use Rattle.sheet.specs.declared.Ahead.the-variants.{Stops}
 use Rattle.sheet.proofs.OneStation.{placed-stops, placed-last, placed-more}
 use Rattle.sheet.proofs.stations.behind_place.Statement.{statement}

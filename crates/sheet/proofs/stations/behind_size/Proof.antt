@@ -2,7 +2,7 @@
 use borrow.Author.Needs.{needs}
 use native.Mathlib.Omega.{arith}
 use mathlib.Core.Path.{ap, _∙_}
-use Rattle.input.specs.Calls.{faultIn}
+use Rattle.entries.specs.Scan.{faultIn}
 use Rattle.sheet.specs.declared.Ahead.the-variants.{Stops}
 use Rattle.input.proofs.Sizes.{size-of-word}
 use Rattle.sheet.proofs.OneStation.{sized-more, sized-stops}

@@ -3,7 +3,7 @@ use Prim.Native.Nat.{_-_}
 use borrow.Author.Needs.{needs}
 use native.Mathlib.Omega.{arith}
 use mathlib.Core.Path.{ap, _∙_}
-use Rattle.input.specs.Calls.{faultIn}
+use Rattle.entries.specs.Scan.{faultIn}
 use Rattle.input.specs.Phases.{refusedStations}
 use Rattle.sheet.proofs.Located.{StationsSoFar, stations-start, stations-end}
 use Rattle.sheet.proofs.OneStation.{next-fault, next-station}

@@ -1,7 +1,7 @@
 -- `station_on` answers by the variant what is ahead behind the next word, and 2 where the words end.
 use borrow.Author.Needs.{needs}
 use mathlib.Core.Path.{refl}
-use Rattle.input.proofs.Reading.{by-end, by-word}
+use Rattle.reader.proofs.Reading.{by-end, by-word}
 use Rattle.sheet.proofs.OneStation.{at-station, at-place, at-read, at-stops}
 use Rattle.sheet.proofs.stations.station_on.Statement.{statement}
 use Rattle.sheet.proofs.stations.station_on.Tie as tie

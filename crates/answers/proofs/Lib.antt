@@ -1,0 +1,2 @@
+-- The laws of fields that are noted.
+mod Noting

@@ -1,0 +1,2 @@
+-- What an answer slice holds.
+pub mod Noted

@@ -1,0 +1,2 @@
+-- Bytes as little-endian words.
+pub mod Words

@@ -1,0 +1,18 @@
+-- Bytes as little-endian words, four bytes each.
+use Prim.Native.Nat.{ℕ, _+_, _*_}
+use mathlib.Core.List.{List, [], _∷_}
+use lib.ListN.{getD}
+
+unfoldable pub wordsIn : List ℕ → List ℕ
+wordsIn [] = []
+wordsIn (a ∷ []) = []
+wordsIn (a ∷ (b ∷ [])) = []
+wordsIn (a ∷ (b ∷ (c ∷ []))) = []
+wordsIn (a ∷ (b ∷ (c ∷ (d ∷ rest)))) = (a + 256 * b + 65536 * c + 16777216 * d) ∷ wordsIn rest
+
+-- ---- for inner contracts
+
+-- the word whose first byte stands at this index
+abbrev pub wordAt : List ℕ → ℕ → ℕ
+wordAt bytes at =
+    getD bytes at 0 + 256 * getD bytes (at + 1) 0 + 65536 * getD bytes (at + 2) 0 + 16777216 * getD bytes (at + 3) 0

@@ -1,0 +1,5 @@
+-- The instance made from a sheet.
+pub mod Made
+pub mod Calls
+pub mod Promises
+pub mod Order

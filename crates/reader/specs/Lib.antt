@@ -1,0 +1,2 @@
+-- What a reader answers.
+pub mod Next
