@@ -19,7 +19,7 @@ use Rattle.table.specs.Layout.{capacity, tableWords}
 use Rattle.table.specs.Meaning.{variablesOf, rowCount, tableRows, domains, capacityOf}
 use Rattle.table.specs.Valid.{validTable}
 use Rattle.table.specs.Check.{shapeOf}
-use Rattle.table.proofs.Own.{Held, words-wide, own-wide, own-empty}
+use Rattle.table.proofs.Own.{Held, words-wide, noSignBehind, own-empty}
 use Rattle.encoding.specs.Calls.{EncodeReturned, encodedRows, encodeCall}
 use Rattle.checker.specs.declared.CheckAnswer.{CheckAnswer}
 use Rattle.checker.specs.declared.ReplayEnd.{ReplayEnd}
@@ -88,7 +88,7 @@ module _ (inst derivation plan : List ℕ) (claimed : ℕ) (t : List ℕ) where
           unfolding domains padded
           same =
               let rows : tableRows t₁ ≡ wideRows lacks (encodedRows inst)
-              = own-wide t₁ (first .valid) ∙ ap₂ (λ ds rs. wideRows (lacking ds) rs) (first .sizes) (first .rows) in
+              = noSignBehind t₁ (first .valid) ∙ ap₂ (λ ds rs. wideRows (lacking ds) rs) (first .sizes) (first .rows) in
               rw (rows, first .sizes, first .capacious)
               (replay-wide lacks (capacity (length t) (length (sizesOf inst))) (sizesOf inst) derivation (encodedRows inst) 0
               (encoded-left inst t found .keeps .valid))

@@ -17,7 +17,7 @@ use Rattle.fields.specs.Limits.{maxVariables}
 use Rattle.fields.specs.Padding.{padded, lacking}
 use Rattle.table.specs.Meaning.{variablesOf, tableSizes, tableRows, ownRows, domains, capacityOf}
 use Rattle.table.specs.Valid.{validTable}
-use Rattle.table.proofs.Own.{validIsCanonical, words-wide, own-wide, own-valid}
+use Rattle.table.proofs.Own.{validIsCanonical, words-wide, noSignBehind, own-valid}
 use Rattle.table.proofs.Finishing.{valid-variables}
 use Rattle.stepping.specs.Step.{Stepping, refusing, stepsTo, allowed, pairWord}
 use Rattle.stepping.proofs.Wide.{wideStepping, allowed-wide}
@@ -108,7 +108,7 @@ module _ (t : List ℕ) (v : validTable t ≡ true) where
   pub step-own : stepReturns t (oneStep (domains t) (capacityOf t) (tableRows t)) ≡ stepReturns t (oneStep (tableSizes t) (capacityOf t) (ownRows t))
   unfolding domains padded
   step-own =
-      rw (own-wide t v, step-wide lacks (capacityOf t) (tableSizes t) (ownRows t) (own-valid t v))
+      rw (noSignBehind t v, step-wide lacks (capacityOf t) (tableSizes t) (ownRows t) (own-valid t v))
       (returns-wide t lacks (oneStep (tableSizes t) (capacityOf t) (ownRows t)))
 
   pub run-own : (most : ℕ) (slice : List ℕ)
@@ -122,7 +122,7 @@ module _ (t : List ℕ) (v : validTable t ≡ true) where
       let bound : emptyWeight maxVariables (wideRows lacks (ran .rows)) ≡ emptyWeight (variablesOf t) (ran .rows)
       = rw twelve at (empty-wide lacks (variablesOf t) (ran .rows)) in
       let table = words-wide (length t) lacks (tableSizes t) (ran .rows) in
-      rw (own-wide t v, run-wide lacks (capacityOf t) (tableSizes t) most (ownRows t) [] (own-valid t v))
+      rw (noSignBehind t v, run-wide lacks (capacityOf t) (tableSizes t) most (ownRows t) [] (own-valid t v))
       (λ i. record {
         answer = record { outcome = ran .outcome; steps = length (ran .made); bound = bound i };
         table = table i;

@@ -20,7 +20,7 @@ use Rattle.table.specs.Raws.{standardForm}
 use Rattle.table.specs.Layout.{tableWordsIn, tableWords}
 use Rattle.table.specs.Meaning.{variablesOf, rowCount, tableSizes, domains, tableRowsIn, ownRowsIn, tableRows, ownRows}
 use Rattle.table.specs.Valid.{validTableIn, validTable}
-use Rattle.table.specs.Theorems.{HoldableIn, ValidIsCanonicalIn, WrittenReadsBackIn, Holdable, ValidIsCanonical, WrittenReadsBack}
+use Rattle.table.specs.Theorems.{HoldableIn, ValidIsCanonicalIn, WrittenReadsBackIn, Holdable, ValidIsCanonical, WrittenReadsBack, NoSignBehind}
 use Rattle.table.specs.Twelve.{TwelveHoldableIn}
 use Rattle.table.proofs.TableLaws.{TableLaws}
 use Rattle.table.proofs.FormTables as forms
@@ -127,8 +127,8 @@ words-wide len k ds rs = words-wide-in standardForm tableLaws len k ds rs
 pub own-widens : (t : List ℕ) → validTable t ≡ true → Widens (lacking (tableSizes t)) (tableSizes t) (ownRows t) (tableRows t)
 own-widens t v = own-widens-in standardForm tableLaws t v
 
-pub own-wide : (t : List ℕ) → validTable t ≡ true → tableRows t ≡ wideRows (lacking (tableSizes t)) (ownRows t)
-own-wide t v = own-wide-in standardForm tableLaws t v
+pub noSignBehind : NoSignBehind
+noSignBehind t v = own-wide-in standardForm tableLaws t v
 
 -- the next pair of the twelve signs is that of the table's own variables
 pub own-next : (t : List ℕ) → validTable t ≡ true → nextPair (domains t) (tableRows t) ≡ nextPair (tableSizes t) (ownRows t)

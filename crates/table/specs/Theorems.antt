@@ -7,15 +7,17 @@ use mathlib.Core.List.{List}
 use mathlib.Core.Option.{some}
 use lib.ListN.{length}
 use Rattle.wcsp.specs.Row.{Row, heavy, ValidRows}
+use Rattle.wcsp.specs.Widening.{wideRows}
 use Rattle.words.specs.Layout.{headWord}
 use Rattle.fields.specs.Limits.{maxVariables}
 use Rattle.fields.specs.Front.{headIn}
+use Rattle.fields.specs.Padding.{lacking}
 use Rattle.fields.specs.Entries.{EachSize}
 use Rattle.table.specs.Form.{TableForm}
 use Rattle.table.specs.Raws.{standardForm}
 use Rattle.table.specs.Layout.{rowsAt, capacityIn, tableWordsIn}
-use Rattle.table.specs.Meaning.{tableSizes, ownRowsIn}
-use Rattle.table.specs.Valid.{validTableIn}
+use Rattle.table.specs.Meaning.{tableSizes, ownRowsIn, tableRows, ownRows}
+use Rattle.table.specs.Valid.{validTableIn, validTable}
 
 -- ---- in any form, for rows over the table's own sizes or over those of twelve variables
 
@@ -64,3 +66,7 @@ ValidIsCanonical = ValidIsCanonicalIn standardForm
 
 abbrev pub WrittenReadsBack : Type 0
 WrittenReadsBack = WrittenReadsBackIn standardForm
+
+-- "no sign for stations from n on": the twelve signs of every row are those of the n variables, and then zeros
+abbrev pub NoSignBehind : Type 0
+NoSignBehind = (t : List ℕ) → validTable t ≡ true → tableRows t ≡ wideRows (lacking (tableSizes t)) (ownRows t)
