@@ -8,7 +8,7 @@ sys.dont_write_bytecode = True
 sys.path.insert(0, str(Path(__file__).resolve().parent.parent / "tests" / "reference"))
 
 from reference.inputs import instance_of, read_sheet
-from reference.printed import words_of
+from reference.planning import words_of
 
 
 def cost_functions(entries):

@@ -5,7 +5,7 @@ import random
 from checks import ROOT
 from reference import inputs
 from reference.answers import Refused
-from reference.printed import words_of
+from reference.planning import words_of
 from sheets.command import text_to_words
 from sheets.fault import Fault
 

@@ -5,7 +5,7 @@ import random
 import round_trips
 from reference import fields, inputs, make_instance, words
 from reference.answers import GOOD, Refused
-from reference.printed import words_of
+from reference.planning import words_of
 from sheets.fault import Fault
 from sheets.words import read_words
 from text_faults import LONG_INSTANCE

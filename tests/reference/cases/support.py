@@ -1,14 +1,28 @@
-"""What several test files share: fields, their costs by definition, and comparisons with the plain reading."""
+"""What several test files share: fields, sheets, costs by definition, and comparisons with the plain reading."""
 
 import unittest
 from itertools import product
 
 from reference import words
+from reference.fields import as_bytes, sheet
 from reference.tables import capacity, read_table
 
 from .plain import plain_answer, plain_rows, value_set
 
 COSTS = [0, 1, 1, 2, 3, 5, 9, 65_535]
+
+# Document 01's worked example as little-endian words.
+EXAMPLE = bytes.fromhex("02000010" "01000020" "00000080" "00000090"
+                        "02000020" "2c010080" "90010090" "58020080" "20030090"
+                        "00010030" "09000040")
+HERE = (0, 0)
+# P2 with a constant cost of 5 in front of it.
+CONSTANT_FIRST = as_bytes(sheet([[HERE] * 3], [([], 5), ([(0, 0)], 2), ([(0, 1)], 1), ([(0, 2)], 4)]))
+# The checker's field, all legs 0 m: four rows, four after the first step, five after the second.
+GROWING = as_bytes(sheet([[HERE] * 2] * 3, [([(0, 0)], 2), ([(0, 1)], 1), ([(1, 0)], 2), ([(1, 1), (2, 0)], 1)]))
+# Ten words of places, 3,997 entries of four words and one of two: 16,000; the instance has as many, since two legs
+# take the room of six coordinates.
+LONGEST = as_bytes(sheet([[HERE]] * 3, [([(0, 0), (1, 0), (2, 0)], 1)] * 3_997 + [([(0, 0)], 1)]))
 
 
 def filler_rows(count):

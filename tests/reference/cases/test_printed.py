@@ -9,15 +9,7 @@ from pathlib import Path
 from reference import Buffers, printed_plan, words
 from reference.fields import as_bytes, sheet
 
-# Document 01's worked example as little-endian words.
-EXAMPLE = bytes.fromhex("02000010" "01000020" "00000080" "00000090"
-                        "02000020" "2c010080" "90010090" "58020080" "20030090"
-                        "00010030" "09000040")
-HERE = (0, 0)
-# P2 with a constant cost of 5 in front of it.
-CONSTANT_FIRST = as_bytes(sheet([[HERE] * 3], [([], 5), ([(0, 0)], 2), ([(0, 1)], 1), ([(0, 2)], 4)]))
-# The checker's field, all legs 0 m: four rows, four after the first step, five after the second.
-GROWING = as_bytes(sheet([[HERE] * 2] * 3, [([(0, 0)], 2), ([(0, 1)], 1), ([(1, 0)], 2), ([(1, 1), (2, 0)], 1)]))
+from .support import CONSTANT_FIRST, EXAMPLE, GROWING, HERE, LONGEST
 
 
 class Printed(unittest.TestCase):
@@ -86,13 +78,9 @@ class Printed(unittest.TestCase):
         self.prints(bytes(64_000), "REFUSED 1")
 
     def test_sheet_of_64000_bytes(self):
-        # Ten words of places, 3,997 entries of four words and one of two: 16,000; the instance has as many, since
-        # two legs take the room of six coordinates.
-        entries = [([(0, 0), (1, 0), (2, 0)], 1)] * 3_997 + [([(0, 0)], 1)]
-        source = as_bytes(sheet([[HERE]] * 3, entries))
-        self.assertEqual(len(source), 64_000)
-        self.prints(source, "PLAN", "COST 3998", "STEPS 0", "0 0 0", "1 0 0", "2 0 0")
-        self.prints(source, "REFUSED 10", instance=15_999)
+        self.assertEqual(len(LONGEST), 64_000)
+        self.prints(LONGEST, "PLAN", "COST 3998", "STEPS 0", "0 0 0", "1 0 0", "2 0 0")
+        self.prints(LONGEST, "REFUSED 10", instance=15_999)
 
     def test_instance_longer_than_its_buffer(self):
         # Four variables have eight coordinates and three legs of three words: 16,001 words from 16,000.

@@ -1,4 +1,4 @@
-"""The planner of document 01 in plain Python, for comparison word for word.
+"""The planner of document 01 in plain Python, with the requests of document 02, for comparison word for word.
 
 A public call takes lists of words or bytes and changes none of them: its answer has the final content of every
 lent slice beside the returned fields.
@@ -6,11 +6,13 @@ lent slice beside the returned fields.
 
 from .checker import check_call
 from .inputs import make_instance
+from .planning import Buffers, solved
 from .plans import plan_call
-from .printed import Buffers, printed_plan
+from .printed import printed_plan
 from .readout import readout_call
+from .season import season_line
 from .steps import run_call, step_call
 from .tables import encode
 
 __all__ = ["Buffers", "check_call", "encode", "make_instance", "plan_call", "printed_plan", "readout_call",
-           "run_call", "step_call"]
+           "run_call", "season_line", "solved", "step_call"]

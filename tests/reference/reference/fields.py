@@ -1,4 +1,4 @@
-"""Builders of instances, sheets and tables as words, from plain lists."""
+"""Builders of instances, sheets and tables as words, and of bytes, from plain lists."""
 
 from . import words
 from .inputs import Entry, Instance, entry_words, instance_words
@@ -53,3 +53,8 @@ def table_length(variables, row_total, spare=0):
 def as_bytes(sequence):
     """Words as the little-endian bytes that the program reads."""
     return b"".join(w.to_bytes(4, "little") for w in sequence)
+
+
+def season(sheets):
+    """The bytes of sheets one behind the other, each with its length in words before it; the sheets are bytes."""
+    return b"".join(as_bytes([len(source) // 4]) + source for source in sheets)

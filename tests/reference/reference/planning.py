@@ -1,0 +1,66 @@
+"""A sheet planned in the program's buffers: from its bytes to what planning it came to."""
+
+from typing import NamedTuple
+
+from .answers import BAD_HEAD, GOOD, TABLE_FULL, TARGET_TOO_SHORT
+from .inputs import make_instance
+from .limits import MAX_VARIABLES
+from .plans import plan_call
+from .steps import DONE, PAUSED, REFUSED, run_call
+from .tables import encode
+
+WORD_BYTES = 4
+PLANNED = "planned"
+FULL = "full"
+
+
+class Buffers(NamedTuple):
+    """Lengths in words of the program's buffers, and the step limit of its run."""
+    sheet: int = 16_000
+    instance: int = 16_000
+    steps: int = 16_000
+    table: int = 15_014
+    limit: int = 16_000
+
+
+class Solved(NamedTuple):
+    """What planning a sheet came to."""
+    ending: str         # PLANNED, REFUSED, PAUSED or FULL
+    number: int         # of the refusal, else 0
+    steps: int
+    bound: int          # the plan's cost, where there is a plan
+    assignment: list    # the plan with zeros behind it, where there is one
+
+
+def solved(source, buffers=Buffers()):
+    """What planning the sheet in these bytes came to. The length is judged before a word is read."""
+    if len(source) > WORD_BYTES * buffers.sheet:
+        return refused(TARGET_TOO_SHORT)
+    if len(source) % WORD_BYTES:
+        return refused(BAD_HEAD)
+    made = make_instance(words_of(source), [0] * buffers.instance)
+    if made.number != GOOD:
+        return refused(made.number)
+    encoding = encode(made.target[:made.written], [0] * buffers.table)
+    if encoding.number != GOOD:
+        return refused(encoding.number)
+    return ended(run_call(encoding.table, buffers.limit, [0] * buffers.steps))
+
+
+def words_of(source):
+    return [int.from_bytes(source[at:at + WORD_BYTES], "little") for at in range(0, len(source), WORD_BYTES)]
+
+
+def refused(number):
+    return Solved(REFUSED, number, 0, 0, [])
+
+
+def ended(ran):
+    """What a run came to: one that is stopped by 12 is no refusal of the sheet."""
+    if ran.outcome == DONE:
+        return Solved(PLANNED, GOOD, ran.steps, ran.bound, plan_call(ran.table, [0] * MAX_VARIABLES).target)
+    if ran.outcome == PAUSED:
+        return Solved(PAUSED, GOOD, ran.steps, ran.bound, [])
+    if ran.number == TABLE_FULL:
+        return Solved(FULL, GOOD, ran.steps, ran.bound, [])
+    return refused(ran.number)
