@@ -1,0 +1,121 @@
+"""The seasons that are compared, each made anew and always the same: a name and the bytes on standard input."""
+
+import random
+from itertools import cycle, islice, product
+
+from reference import words
+from reference.fields import as_bytes, season, sheet
+from sheets import EXAMPLE, HERE, all_sheets
+
+ONE = as_bytes(EXAMPLE)
+NO_WORDS = b""
+# The shortest sheet that is passed over.
+PASSED_OVER = bytes(64_004)
+
+
+def costing(cost):
+    """A sheet of this least cost, of five words."""
+    return as_bytes(sheet([[HERE]], [([], cost)]))
+
+
+def length(words_announced):
+    return as_bytes([words_announced])
+
+
+# Sheets of at most five words: refused under 1, 2 and 3, and planned, with a cost that may come twice.
+TINY = [NO_WORDS, as_bytes([words.head(13)]), as_bytes([words.head(1)]), costing(7)[:-4] + as_bytes([words.size(1)]),
+        costing(7)[:-4], costing(7)]
+
+
+def cuts():
+    """Ends of a file, and lengths about every bound."""
+    yield "empty", b""
+    for cut in (1, 2, 3):
+        for last in (b"\0\0\0", b"\xff\xff\xff"):
+            yield f"length cut after {cut} of {last}", last[:cut]
+            yield f"length cut after {cut} of {last} behind a sheet", season([ONE]) + last[:cut]
+    yield "length 0", length(0)
+    yield "length 0 before a sheet", season([NO_WORDS, ONE])
+    for announced in (1, 12, 16_000, 16_001, 0x3FFFFFFF, 0x40000000, 0x4000000B, 0x7FFFFFFF, 0x80000000, 0xC0000001,
+                      0xFFFFFFFF):
+        yield f"length {announced} before 44 bytes", season([ONE]) + length(announced) + ONE
+    for more in (64_003, 64_004):
+        yield f"{more} bytes behind length 16,001", length(16_001) + bytes(more)
+        yield f"{more} bytes and a sheet behind length 16,001", length(16_001) + bytes(more) + season([ONE])
+    inside = season([ONE] * 2_000)
+    yield "sheets in passed-over words", season([inside, costing(3), inside, ONE]) + b"\0"
+
+
+def costs():
+    """Which cost is the largest, and which sheet has it first."""
+    for listed in ([3, 7, 7, 5], [7, 3, 7], [1, 2, 3], [0], [0, 0, 0], [0, 1, 1], [65_535, 65_535]):
+        yield f"costs {listed}", season(map(costing, listed))
+    yield "nothing planned", season(TINY[:4])
+    yield "refused before costs 0", season([*TINY[:4], PASSED_OVER, costing(0), costing(0)])
+    yield "refused before a plan", season([*TINY[:4], PASSED_OVER, costing(4)])
+
+
+def many_sheets():
+    """As many sheets as are counted, and more."""
+    tiny = list(islice(cycle([costing(cost) for cost in range(1, 30)] + TINY), 10_000))
+    yield "10,000 sheets", season(tiny)
+    yield "10,001 sheets", season(tiny + [costing(60_000)])
+    last = season(tiny[:-1])
+    for name, end in (("a plan", season([costing(1_000)])), ("no words", length(0)), ("a cut length", b"\0\0\0"),
+                      ("a cut sheet", season([ONE])[:-1]), ("passed-over words", season([PASSED_OVER]))):
+        yield f"{name} as the 10,000th sheet", last + end
+    for cut in (1, 2, 3, 4):
+        yield f"10,000 sheets and {cut} bytes", season([NO_WORDS] * 10_000) + length(16_000)[:cut]
+
+
+def every_outcome():
+    """The sheets whose printed plans are compared, each by itself and all together in several orders. A length that is
+    no multiple of four has no place in a season."""
+    named = [(name, source) for name, source in all_sheets() if len(source) % 4 == 0]
+    for name, source in named:
+        yield f"{name} alone", season([source])
+    sources = [source for _, source in named]
+    yield "every outcome", season(sources)
+    yield "every outcome, backwards", season(reversed(sources))
+    for seed in (1, 2):
+        random.Random(seed).shuffle(sources)
+        yield f"every outcome, shuffled with seed {seed}", season(sources)
+
+
+def truncated():
+    """Every beginning of every season of up to two tiny sheets, and of one of three sheets."""
+    whole = [season(chosen) for count in range(3) for chosen in product(TINY, repeat=count)]
+    whole.append(season([ONE, TINY[1], ONE]))
+    beginnings = {source[:end] for source in whole for end in range(len(source) + 1)}
+    for source in sorted(beginnings):
+        yield f"{len(source)} bytes {source.hex()}", source
+
+
+def damaged(rng, source):
+    """The bytes with a word changed, a byte changed, left out or doubled, or the end cut off."""
+    at = rng.randrange(len(source))
+    word = at - at % 4
+    changed = int.from_bytes(source[word:word + 4], "little") + rng.choice([-2, -1, 1, 2, 16_000, 1 << 30])
+    return rng.choice([source[:word] + length(changed % (1 << 32)) + source[word + 4:],
+                       source[:at] + bytes([rng.randrange(256)]) + source[at + 1:],
+                       source[:at] + source[at + 1:],
+                       source[:at] + source[at:at + 1] + source[at:],
+                       source[:at]])
+
+
+def randomly_damaged():
+    rng = random.Random(31)
+    pool = TINY + [ONE, *(source for _, source in all_sheets() if 40 < len(source) < 500)]
+    for number in range(250):
+        sheets = [rng.choice(pool) for _ in range(rng.randint(1, 7))]
+        if rng.random() < 0.15:
+            sheets.insert(rng.randrange(len(sheets)), PASSED_OVER)
+        source = season(sheets)
+        for _ in range(rng.randint(1, 3)):
+            source = damaged(rng, source) or length(1)
+        yield f"randomly damaged {number}", source
+
+
+def all_seasons():
+    for group in (cuts, costs, many_sheets, every_outcome, truncated, randomly_damaged):
+        yield from group()
