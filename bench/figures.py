@@ -35,13 +35,18 @@ def proved_library():
 
 
 def build_driver(library):
-    BUILT.mkdir(parents=True, exist_ok=True)
     subprocess.run([BENCH / "plain" / "build"], check=True)
-    command = ["rustc", "-O", "--edition", "2021", BENCH / "driver.rs",
-               "--extern", f"plain={ROOT / 'target' / 'plain' / 'libplain.rlib'}", "-o", DRIVER]
-    if library:
-        command += ["--cfg", "proved", "-C", f"link-arg={library}"]
-    subprocess.run(command, check=True)
+    plain = ["--extern", f"plain={ROOT / 'target' / 'plain' / 'libplain.rlib'}"]
+    build("driver.rs", DRIVER, plain + (["--cfg", "proved", *linked(library)] if library else []))
+
+
+def linked(library):
+    return ["-C", f"link-arg={library}"]
+
+
+def build(source, program, options):
+    BUILT.mkdir(parents=True, exist_ok=True)
+    subprocess.run(["rustc", "-O", "--edition", "2021", BENCH / source, *options, "-o", program], check=True)
 
 
 def driven(what, sheet):
@@ -59,11 +64,15 @@ def instructions(implementation, sheet, *more):
     """Instructions from the sheet's words to the plan, as valgrind counts them; 0 where it is not installed.
 
     For `run_plain` and `run_proved`, of a run of so many steps alone."""
+    return counted([DRIVER, implementation, sheet, *more], f"--toggle-collect=bench_{implementation}")
+
+
+def counted(command, *options, stdin=None):
+    """Instructions of a command, as valgrind counts them; 0 where it is not installed."""
     if not shutil.which("valgrind"):
         return 0
-    done = subprocess.run(["valgrind", "--tool=callgrind", "--callgrind-out-file=/dev/null",
-                           f"--toggle-collect=bench_{implementation}", DRIVER, implementation, sheet, *more],
-                          check=True, capture_output=True, text=True)
+    done = subprocess.run(["valgrind", "--tool=callgrind", "--callgrind-out-file=/dev/null", *options, *command],
+                          stdin=stdin, check=True, capture_output=True, text=True)
     return int(re.search(r"Collected : (\d+)", done.stderr).group(1))
 
 

@@ -30,9 +30,18 @@ impl Buffers {
             assignment: [0; 12],
         }
     }
+
+    /// Makes the buffers of the next sheet of these, zero again.
+    #[allow(dead_code)]
+    pub fn clear(&mut self) {
+        self.instance.fill(0);
+        self.table.fill(0);
+        self.derivation.fill(0);
+        self.assignment.fill(0);
+    }
 }
 
-fn touched(length: usize) -> Vec<u32> {
+pub fn touched(length: usize) -> Vec<u32> {
     let mut words = vec![1; length];
     words.fill(0);
     words
