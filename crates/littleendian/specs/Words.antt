@@ -10,8 +10,6 @@ wordsIn (a ∷ (b ∷ [])) = []
 wordsIn (a ∷ (b ∷ (c ∷ []))) = []
 wordsIn (a ∷ (b ∷ (c ∷ (d ∷ rest)))) = (a + 256 * b + 65536 * c + 16777216 * d) ∷ wordsIn rest
 
--- ---- for inner contracts
-
 -- the word whose first byte stands at this index
 abbrev pub wordAt : List ℕ → ℕ → ℕ
 wordAt bytes at =

@@ -1,23 +1,7 @@
 // Reads a sheet from standard input and writes its plan's text to standard output. A byte more than the longest sheet is read, so that a longer one shows.
 ghost use Prim.Native.Nat.{_≤_};
 ghost use lib.ListN.{length};
-
-// What reading came to: whether a read failed, and how many bytes were read.
-struct Input {
-    failed: bool,
-    length: usize,
-}
-
-// One read into the front of the bytes: none come where it fails, and none where the input has ended.
-fn read_some(bytes: &mut [u8]) -> Input
-    ensures { λ r. ⌜ r .length ≤ length (now (bytes .entry)) ⌝ }
-{
-    let got = libc::read(0, bytes);
-    Input {
-        failed: got < 0,
-        length: io::count(got, bytes),
-    }
-}
+use reading::Input;
 
 // Reads until the bytes are full or a read brings none: a read that failed is told from the end of the input, so that no cut sheet passes for a whole one.
 fn read_input(bytes: &mut [u8]) -> Input
@@ -25,7 +9,7 @@ fn read_input(bytes: &mut [u8]) -> Input
 {
     let mut done = 0;
     while done < bytes.len() {
-        let more = read_some(&mut bytes[done..]);
+        let more = reading::read_some(&mut bytes[done..]);
         if more.length == 0 {
             return Input {
                 failed: more.failed,

@@ -56,6 +56,10 @@ fullLine steps bound = line (textFull ∷ decimal steps ∷ textBound ∷ decima
 abbrev pub planHead : ℕ → ℕ → List ℕ
 planHead cost steps = line (textPlan ∷ []) ++ (line (textCost ∷ decimal cost ∷ []) ++ line (textSteps ∷ decimal steps ∷ []))
 
+-- three numbers
+abbrev pub threeLine : ℕ → ℕ → ℕ → List ℕ
+threeLine a b c = line (decimal a ∷ decimal b ∷ decimal c ∷ [])
+
 -- a variable, its value, and the metres to it (document 01: station, spot, metres from the previous chosen spot)
 abbrev pub variableLine : ℕ → ℕ → ℕ → List ℕ
-variableLine variable value metres = line (decimal variable ∷ decimal value ∷ decimal metres ∷ [])
+variableLine variable value metres = threeLine variable value metres

@@ -2,11 +2,11 @@
 ghost use mathlib.Core.List.{[], _∷_};
 ghost use Prim.Native.Nat.{_+_, _≤_};
 ghost use lib.ListN.{length};
-ghost use Rattle.text.specs.Text.{decimal, textBound, line, refusedLine, pausedLine, fullLine, planHead, variableLine};
+ghost use Rattle.text.specs.Text.{decimal, textBound, line, refusedLine, pausedLine, fullLine, planHead, threeLine, variableLine};
 ghost use Rattle.text.specs.Putting.{Put};
 
 // Bytes as they are.
-fn put(out: &mut [u8], at: usize, bytes: &[u8]) -> usize
+pub fn put(out: &mut [u8], at: usize, bytes: &[u8]) -> usize
     requires { ⌜ at + length (now bytes) ≤ length (now out) ⌝ }
     ensures { λ r. ⌜ Put (now (out .entry)) at (now (bytes .entry)) (now (out .exit)) r ⌝ }
 {
@@ -19,7 +19,7 @@ fn put(out: &mut [u8], at: usize, bytes: &[u8]) -> usize
 }
 
 // A number's digits: those of its tenth, then its last.
-fn put_number(out: &mut [u8], at: usize, n: u64) -> usize
+pub fn put_number(out: &mut [u8], at: usize, n: u64) -> usize
     requires { ⌜ at + 20 ≤ length (now out) ⌝ }
     ensures { λ r. ⌜ Put (now (out .entry)) at (decimal n) (now (out .exit)) r × (r ≤ at + 20) ⌝ }
 {
@@ -85,15 +85,23 @@ pub fn put_plan_head(out: &mut [u8], at: usize, cost: u64, steps: usize) -> usiz
     put(out, end, b"\n")
 }
 
+// A line of three numbers.
+pub fn put_three(out: &mut [u8], at: usize, a: u64, b: u64, c: u64) -> usize
+    requires { ⌜ at + 64 ≤ length (now out) ⌝ }
+    ensures { λ r. ⌜ Put (now (out .entry)) at (threeLine a b c) (now (out .exit)) r × (r ≤ at + 64) ⌝ }
+{
+    let one = put_number(out, at, a);
+    let first = put(out, one, b" ");
+    let two = put_number(out, first, b);
+    let second = put(out, two, b" ");
+    let three = put_number(out, second, c);
+    put(out, three, b"\n")
+}
+
 // Variable, value, metres.
 pub fn put_variable(out: &mut [u8], at: usize, variable: u32, value: u8, metres: u32) -> usize
     requires { ⌜ at + 64 ≤ length (now out) ⌝ }
     ensures { λ r. ⌜ Put (now (out .entry)) at (variableLine variable value metres) (now (out .exit)) r × (r ≤ at + 64) ⌝ }
 {
-    let named = put_number(out, at, variable as u64);
-    let first = put(out, named, b" ");
-    let valued = put_number(out, first, value as u64);
-    let second = put(out, valued, b" ");
-    let measured = put_number(out, second, metres as u64);
-    put(out, measured, b"\n")
+    put_three(out, at, variable as u64, value as u64, metres as u64)
 }

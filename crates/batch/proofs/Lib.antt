@@ -1,0 +1,7 @@
+-- The laws of a season's bytes.
+pub mod Columns
+mod Answers
+pub mod Feeding
+pub mod Meaning
+pub mod Telling
+pub mod Lasting

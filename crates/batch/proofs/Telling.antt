@@ -1,0 +1,143 @@
+-- What a season's figures tell of its sheets, and that few bytes bring none of them to its end.
+use Prim.Native.Nat.{ℕ, zero, suc, _+_, _*_, _-_, _≤_, _<_}
+use native.Mathlib.Omega.{arith}
+use mathlib.Core.Path.{_≡_, refl, sym, ap, _∙_}
+use mathlib.Core.Bool.{Bool, true, false, cond}
+use mathlib.Core.List.{List, [], _∷_, map}
+use lib.ListN.{length, take, drop, set, length-map}
+use lib.Dec.{eqb, ltb}
+use borrow.Author.Tests.{eqb-true, ne-eqb}
+use Rattle.wcsp.specs.Entry.{LeastCost}
+use Rattle.fields.specs.Limits.{greatestCost}
+use Rattle.fields.specs.Entries.{Each, nilEach, consEach}
+use Rattle.input.specs.Instance.{sizesOf, entriesOf}
+use Rattle.making.specs.Made.{madeWords}
+use Rattle.littleendian.specs.Words.{wordAt, wordsIn}
+use Rattle.planning.specs.declared.Solved.{Solved}
+use Rattle.planning.specs.Solving.{refusedSolved, solvedOf}
+use Rattle.planning.specs.Theorems.{SheetMeans, faulty, longInstance, manyRows, planned, paused, full, Means, tooLong, noWords, ofWords}
+use Rattle.planning.proofs.Meaning.{solvedMeans}
+use Rattle.cutting.specs.declared.Phase.{Phase}
+use Rattle.cutting.specs.declared.Found.{Found}
+use Rattle.cutting.specs.Cutting.{longestSheet, byteCut, wantedIn}
+use Rattle.figures.specs.Counting.{plannedColumn, mostSheets}
+use Rattle.figures.specs.Tallies.{isPlanned, costsOf}
+use Rattle.figures.proofs.Tallies.{countsAddUp}
+use Rattle.figures.proofs.Largest.{largestIsFirst, sumIsBounded}
+use Rattle.batch.specs.Season.{Sheet, cutOff, passedOver, whole, sheetsBehind, sheetsIn, solvedSheet, columnOf, sheetFigure, seasonSheets}
+use Rattle.batch.specs.Feeding.{Fed, afterFound, takesIn, byteTaken, fed}
+use Rattle.batch.specs.Theorems.{NothingBehind, PlannedAt, SeasonMeans}
+use Rattle.batch.proofs.Columns.{OwnColumn, cut-column, long-column, fault-column, many-column, sheet-in-column}
+use Rattle.batch.proofs.Feeding.{at, fed-none, fed-byte}
+use Rattle.batch.proofs.Meaning.{every}
+
+-- ---- the sheets
+
+behind-few : (k words : ℕ) (rest : List ℕ) → ((xs : List ℕ) → length (sheetsIn k xs) ≤ k) → length (sheetsBehind words rest (sheetsIn k)) ≤ suc k
+unfolding sheetsBehind
+behind-few k words rest ih = go (ltb (length rest) (4 * words))
+  where
+    go : (b : Bool) → length (cond b (cutOff ∷ []) (cond (ltb longestSheet words) passedOver (whole (take (4 * words) rest)) ∷ sheetsIn k (drop (4 * words) rest))) ≤ suc k
+    go true = omega arith
+    go false = let few = ih (drop (4 * words) rest) in omega (arith, few)
+
+sheets-few : (k : ℕ) (file : List ℕ) → length (sheetsIn k file) ≤ k
+unfolding sheetsIn
+sheets-few zero file = omega arith
+sheets-few (suc k) file = go (eqb (length file) 0) (ltb (length file) 4) (sheets-few k)
+  where
+    go : (a b : Bool) → ((xs : List ℕ) → length (sheetsIn k xs) ≤ k)
+        → length (cond a [] (cond b (cutOff ∷ []) (sheetsBehind (wordAt file 0) (drop 4 file) (sheetsIn k)))) ≤ suc k
+    go true b ih = omega arith
+    go false true ih = omega arith
+    go false false ih = behind-few k (wordAt file 0) (drop 4 file) ih
+
+-- ---- what is planned
+
+-- a value that is planned has the least cost of its bytes' instance
+abbrev LeastOf : List ℕ → ℕ → Type 0
+LeastOf sheet cost = LeastCost (sizesOf (madeWords sheet)) (entriesOf (madeWords sheet)) cost
+
+not-planned : {A : Type 0} {column : ℕ} → OwnColumn column → eqb column plannedColumn ≡ true → A
+not-planned {column = column} own e = absurd (own .other (eqb-true column plannedColumn e))
+
+sheet-least : (sheet : List ℕ) (s : Solved) → SheetMeans sheet s → eqb (columnOf (s .ending)) plannedColumn ≡ true → LeastOf sheet (s .bound)
+unfolding columnOf
+sheet-least sheet _ (faulty k e low high) p = not-planned (fault-column k low high) p
+sheet-least sheet _ (longInstance e h) p = not-planned long-column p
+sheet-least sheet _ (manyRows e h m) p = not-planned many-column p
+sheet-least sheet _ (planned plan steps least h b r) p =
+    record { assignment = _; inRange = b .inRange; attained = b .attained; least = b .least }
+sheet-least sheet _ (paused steps b h n r) p = absurd (let z = eqb-true 8 plannedColumn p in omega (arith, z))
+sheet-least sheet _ (full steps b h n r) p = absurd (let z = eqb-true 9 plannedColumn p in omega (arith, z))
+
+bytes-least : (bytes : List ℕ) → eqb (columnOf (solvedOf bytes .ending)) plannedColumn ≡ true → LeastOf (wordsIn bytes) (solvedOf bytes .bound)
+unfolding columnOf
+bytes-least bytes = go (solvedOf bytes) (solvedMeans bytes)
+  where
+    go : (s : Solved) → Means bytes s → eqb (columnOf (s .ending)) plannedColumn ≡ true → LeastOf (wordsIn bytes) (s .bound)
+    go _ (tooLong h) p = not-planned long-column p
+    go _ (noWords h n) p = not-planned cut-column p
+    go _ (ofWords s h e m) p = sheet-least (wordsIn bytes) s m p
+
+planned-at : (sheet : Sheet) → isPlanned (sheetFigure sheet) ≡ true → PlannedAt sheet (sheetFigure sheet .cost)
+unfolding solvedSheet columnOf
+planned-at cutOff p = not-planned cut-column p
+planned-at passedOver p = not-planned long-column p
+planned-at (whole bytes) p = record { bytes = bytes; sheetHas = refl; least = bytes-least bytes p }
+
+every-planned : (sheets : List Sheet) → Each (λ sheet. isPlanned (sheetFigure sheet) ≡ true → PlannedAt sheet (sheetFigure sheet .cost)) sheets
+every-planned [] = nilEach
+every-planned (s ∷ sheets) = consEach (planned-at s) (every-planned sheets)
+
+costs-cheap : (sheets : List Sheet) → Each (λ k. k ≤ greatestCost) (costsOf (map sheetFigure sheets))
+unfolding costsOf
+costs-cheap [] = nilEach
+costs-cheap (s ∷ sheets) = go (isPlanned (sheetFigure s)) refl (costs-cheap sheets)
+  where
+    go : (b : Bool) → isPlanned (sheetFigure s) ≡ b → Each (λ k. k ≤ greatestCost) (costsOf (map sheetFigure sheets))
+        → Each (λ k. k ≤ greatestCost) (cond b (sheetFigure s .cost ∷ costsOf (map sheetFigure sheets)) (costsOf (map sheetFigure sheets)))
+    go true e rest = consEach (sheet-in-column s .cheap (eqb-true (sheetFigure s .column) plannedColumn e)) rest
+    go false e rest = rest
+
+pub seasonMeans : SeasonMeans
+seasonMeans file =
+    let sheets : List Sheet = seasonSheets file in
+    let few = sheets-few mostSheets file in
+    let long = length-map sheets sheetFigure in
+    let sum = sumIsBounded (map sheetFigure sheets) (costs-cheap sheets) in
+    record {
+      few = few;
+      inColumns = every sheets;
+      adds = countsAddUp (map sheetFigure sheets) (every sheets) ∙ long;
+      planned = every-planned sheets;
+      largest = largestIsFirst (map sheetFigure sheets);
+      bounded = omega (arith, few, long, sum);
+    }
+
+-- ---- few bytes
+
+-- a byte that is not the last of its phase brings nothing to its end
+quiet : (phase : Phase) (body : List ℕ) (b : ℕ) → 1 < wantedIn phase
+    → (byteCut phase body b .found ≡ Found.Nothing) × (wantedIn (byteCut phase body b .phase) + 1 ≡ wantedIn phase)
+unfolding byteCut wantedIn
+quiet (Phase.Length n) body b h = rw (ne-eqb (n + 1) 4 (λ (e : n + 1 ≡ 4). omega (arith, h, e))) (refl, omega (arith, h))
+quiet (Phase.Body n end) body b h = rw (ne-eqb (n + 1) end (λ (e : n + 1 ≡ end). omega (arith, h, e))) (refl, omega (arith, h))
+quiet (Phase.Passing left) body b h = rw (ne-eqb left 1 (λ (e : left ≡ 1). omega (arith, h, e))) (refl, omega (arith, h))
+quiet Phase.Over body b h = absurd (omega (arith, h))
+
+pub nothingBehind : NothingBehind
+unfolding fed afterFound
+nothingBehind f [] h = refl
+nothingBehind f (x ∷ xs) h = go (takesIn (f .season) (length (f .body))) refl (λ g l. nothingBehind g xs l)
+  where
+    go : (t : Bool) → takesIn (f .season) (length (f .body)) ≡ t
+        → ((g : Fed) → length xs < wantedIn (g .season .phase) → fed g xs .season .figures ≡ g .season .figures)
+        → fed f (x ∷ xs) .season .figures ≡ f .season .figures
+    go true e ih =
+        let c = byteCut (f .season .phase) (f .body) x in
+        let q = quiet (f .season .phase) (f .body) x (omega (arith, h)) in
+        let step : byteTaken (f .season) (f .body) x ≡ at (f .season .figures) (c .phase) (c .body) = rw (q .0) in
+        ap (λ (g : Fed). g .season .figures) (fed-byte f x xs e) ∙ ap (λ (g : Fed). fed g xs .season .figures) step
+        ∙ ih (at (f .season .figures) (c .phase) (c .body)) (omega (arith, h, q .1))
+    go false e ih = ap (λ (g : Fed). g .season .figures) (fed-none f (x ∷ xs) e)

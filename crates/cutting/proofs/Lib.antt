@@ -1,0 +1,3 @@
+-- The laws of bytes that are taken.
+pub mod Phases
+pub mod Pieces

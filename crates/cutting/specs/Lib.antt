@@ -1,0 +1,3 @@
+-- A season's bytes cut into sheets.
+pub mod Cutting
+pub mod Pieces
