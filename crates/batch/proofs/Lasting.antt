@@ -60,13 +60,13 @@ unfolding most
 behind-lasts f phase body left s known long zero xs g lasts h =
     let n = next f phase body left s known long in
     let last : ltb (sheetsOf n) mostSheets ≡ false
-        = le-ltb (sheetsOf n) mostSheets (omega (arith, one-more f phase body left s known long zero g, g .few)) in
+    = le-ltb (sheetsOf n) mostSheets (omega (arith, one-more f phase body left s known long zero g, g .few)) in
     let none : takesIn (record { phase = Phase.Over; figures = n }) (length left) ≡ false = rw (over-takes-none (length left)) in
     rw (last, fed-none (at n Phase.Over left) xs none)
 behind-lasts f phase body left s known long (suc k) xs g lasts h =
     let n = next f phase body left s known long in
     let on : ltb (sheetsOf n) mostSheets ≡ true
-        = lt-ltb (sheetsOf n) mostSheets (omega (arith, one-more f phase body left s known long (suc k) g, g .few)) in
+    = lt-ltb (sheetsOf n) mostSheets (omega (arith, one-more f phase body left s known long (suc k) g, g .few)) in
     rw on (lasts n (Phase.Length 0) left k (good-next f phase body left s known long k g) nilEach (omega (arith, h)))
 
 -- ---- one byte
