@@ -20,7 +20,7 @@ use Rattle.figures.specs.Line.{figuresLine}
 use Rattle.text.specs.Putting.{Put}
 use Rattle.batch.specs.declared.Season.{Season}
 use Rattle.batch.specs.Season.{refusalColumn, columnOf}
-use Rattle.batch.specs.Feeding.{countedSheet, behindSheet, afterFound, takesIn, isCut, finishedFigures, finishedLine}
+use Rattle.batch.specs.Feeding.{countedSheet, behindSheet, afterFound, seasonTakes, isCut, finishedFigures, finishedLine}
 
 -- ---- columns
 
@@ -95,10 +95,10 @@ sheet-end found end room e h = rw e at h
 -- ---- whether a byte is taken
 
 module _ (s : Season) (room : ℕ) (a : Bool) (e : a ≡ takesByte (s .phase) room) where
-  pub takes-both : a ≡ true → (b : Bool) → b ≡ takesSheet (s .figures) → b ≡ takesIn s room
+  pub takes-both : a ≡ true → (b : Bool) → b ≡ takesSheet (s .figures) → b ≡ seasonTakes s room
   takes-both h b f = rw (← e, h) f
 
-  pub takes-none : a ≡ false → a ≡ takesIn s room
+  pub takes-none : a ≡ false → a ≡ seasonTakes s room
   takes-none h = rw (← e, h)
 
 -- ---- the end of the file

@@ -24,7 +24,7 @@ use Rattle.figures.specs.declared.Figures.{Figures}
 use Rattle.figures.specs.Counting.{columnCount, plannedColumn, counted}
 use Rattle.figures.specs.Tallies.{isPlanned}
 use Rattle.figures.specs.Theorems.{InColumn}
-use Rattle.batch.specs.Season.{Sheet, cutOff, passedOver, whole, solvedSheet, refusalColumn, columnOf, figureOf, sheetFigure}
+use Rattle.batch.specs.Season.{Sheet, cutOff, passedOver, whole, solvedSheet, refusalColumn, columnOf, figureOf, figureOfSheet}
 use Rattle.batch.specs.Feeding.{countedSheet}
 
 -- ---- refusals

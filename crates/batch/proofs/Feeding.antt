@@ -18,7 +18,7 @@ use Rattle.cutting.proofs.Pieces.{body-length, still-takes, fits-buffer}
 use Rattle.figures.specs.declared.Figures.{Figures}
 use Rattle.figures.specs.Counting.{takesSheet}
 use Rattle.batch.specs.declared.Season.{Season}
-use Rattle.batch.specs.Feeding.{Fed, afterFound, takesIn, byteTaken, fedByte, fed}
+use Rattle.batch.specs.Feeding.{LentSeason, afterFound, seasonTakes, byteTaken, fedByte, fed}
 use Rattle.batch.specs.Theorems.{FedInPieces}
 
 pub fedInPieces : FedInPieces
@@ -27,13 +27,13 @@ fedInPieces f [] ys = refl
 fedInPieces f (x ∷ xs) ys = fedInPieces (fedByte f x) xs ys
 
 -- a season that takes no byte stays as it is
-pub fed-none : (f : Fed) (xs : List ℕ) → takesIn (f .season) (length (f .body)) ≡ false → fed f xs ≡ f
+pub fed-none : (f : LentSeason) (xs : List ℕ) → seasonTakes (f .season) (length (f .body)) ≡ false → fed f xs ≡ f
 unfolding fed fedByte
 fed-none f [] e = refl
 fed-none f (x ∷ xs) e = rw e (fed-none f xs e)
 
 -- a byte that is taken
-pub fed-byte : (f : Fed) (x : ℕ) (xs : List ℕ) → takesIn (f .season) (length (f .body)) ≡ true
+pub fed-byte : (f : LentSeason) (x : ℕ) (xs : List ℕ) → seasonTakes (f .season) (length (f .body)) ≡ true
     → fed f (x ∷ xs) ≡ fed (byteTaken (f .season) (f .body) x) xs
 unfolding fed fedByte
 fed-byte f x xs e = rw e
@@ -48,10 +48,10 @@ still-takes-byte phase body b e quiet =
 
 -- ---- up to the first that brings something to its end
 
-abbrev pub at : Figures → Phase → List ℕ → Fed
+abbrev pub at : Figures → Phase → List ℕ → LentSeason
 at figures phase body = record { season = record { phase = phase; figures = figures }; body = body }
 
-abbrev pub afterPart : Figures → Part → Fed
+abbrev pub afterPart : Figures → Part → LentSeason
 afterPart figures p = record { season = afterFound figures (p .phase) (p .body) (p .found); body = p .body }
 
 -- a byte brings something to its end, or what the rest comes to is what all come to
@@ -100,7 +100,7 @@ part-fits phase body (x ∷ xs) e =
 
 -- ---- what a cut took, as it was fed
 
-module _ (s : Season) (body xs left : List ℕ) (taken : Taken) (t : takesIn s (length body) ≡ true) (cuts : CutsTo (s .phase) body xs taken left) where
+module _ (s : Season) (body xs left : List ℕ) (taken : Taken) (t : seasonTakes s (length body) ≡ true) (cuts : CutsTo (s .phase) body xs taken left) where
   takes-byte : takesByte (s .phase) (length body) ≡ true
   takes-byte = and-left (takesByte (s .phase) (length body)) (takesSheet (s .figures)) t
 
@@ -118,8 +118,8 @@ pub piece-long : (bytes : List ℕ) (from : ℕ) → length (take (length bytes 
 piece-long bytes from = length-take-le (length bytes - from) (drop from bytes) (omega (arith, length-drop from bytes))
 
 -- a turn of the loop
-pub fed-again : (f : Fed) (s r : Season) (body bytes left : List ℕ) (from : ℕ) (taken : Taken)
-    → fed f bytes ≡ fed (record { season = s; body = body }) (drop from bytes) → from ≤ length bytes → takesIn s (length body) ≡ true
+pub fed-again : (f : LentSeason) (s r : Season) (body bytes left : List ℕ) (from : ℕ) (taken : Taken)
+    → fed f bytes ≡ fed (record { season = s; body = body }) (drop from bytes) → from ≤ length bytes → seasonTakes s (length body) ≡ true
     → CutsTo (s .phase) body (take (length bytes - from) (drop from bytes)) taken left → r ≡ afterFound (s .figures) (taken .phase) left (taken .found)
     → fed f bytes ≡ fed (record { season = r; body = left }) (drop (from + taken .count) bytes)
 fed-again f s r body bytes left from taken inv h t cuts e =
@@ -127,9 +127,9 @@ fed-again f s r body bytes left from taken inv h t cuts e =
     inv ∙ rw (e, ← drop-drop (taken .count) from bytes) (fed-cut s body (drop from bytes) left taken t (rw all at cuts))
 
 -- no byte is left, or none is taken
-pub fed-all : (f g : Fed) (bytes : List ℕ) (from : ℕ) → fed f bytes ≡ fed g (drop from bytes) → length bytes ≤ from → g ≡ fed f bytes
+pub fed-all : (f g : LentSeason) (bytes : List ℕ) (from : ℕ) → fed f bytes ≡ fed g (drop from bytes) → length bytes ≤ from → g ≡ fed f bytes
 unfolding fed
 fed-all f g bytes from inv h = sym (rw (drop-of-length-le bytes h) at inv)
 
-pub fed-stopped : (f g : Fed) (bytes : List ℕ) (from : ℕ) → fed f bytes ≡ fed g (drop from bytes) → takesIn (g .season) (length (g .body)) ≡ false → g ≡ fed f bytes
+pub fed-stopped : (f g : LentSeason) (bytes : List ℕ) (from : ℕ) → fed f bytes ≡ fed g (drop from bytes) → seasonTakes (g .season) (length (g .body)) ≡ false → g ≡ fed f bytes
 fed-stopped f g bytes from inv e = sym (inv ∙ fed-none g (drop from bytes) e)

@@ -22,7 +22,7 @@ use Rattle.cutting.proofs.Phases.{length-taken, body-taken, passing-taken, over
 use Rattle.figures.specs.declared.Figures.{Figures}
 use Rattle.figures.specs.Counting.{mostSheets, noFigures, sheetsOf}
 use Rattle.batch.specs.Season.{solvedSheet}
-use Rattle.batch.specs.Feeding.{Fed, countedSheet, behindSheet, afterFound, takesIn, fed}
+use Rattle.batch.specs.Feeding.{LentSeason, countedSheet, behindSheet, afterFound, seasonTakes, fed}
 use Rattle.batch.specs.Theorems.{mostSheetBytes, SeasonEnds}
 use Rattle.batch.proofs.Columns.{Countable, long-countable, solved-countable}
 use Rattle.batch.proofs.Feeding.{at, fed-none, fed-byte, still-takes-byte}
@@ -45,7 +45,7 @@ Begun (Phase.Body n end) body = _≡_ {A = ℕ} 0 0
 Begun (Phase.Passing left) body = _≡_ {A = ℕ} 0 0
 Begun Phase.Over body = _≡_ {A = ℕ} 0 0
 
-abbrev Over : Fed → List ℕ → Type 0
+abbrev Over : LentSeason → List ℕ → Type 0
 Over f xs = fed f xs .season .phase ≡ Phase.Over
 
 abbrev Lasts : List ℕ → Type 0
@@ -61,7 +61,7 @@ behind-lasts f phase body left s known long zero xs g lasts h =
     let n = next f phase body left s known long in
     let last : ltb (sheetsOf n) mostSheets ≡ false
     = le-ltb (sheetsOf n) mostSheets (omega (arith, one-more f phase body left s known long zero g, g .few)) in
-    let none : takesIn (record { phase = Phase.Over; figures = n }) (length left) ≡ false = rw (over-takes-none (length left)) in
+    let none : seasonTakes (record { phase = Phase.Over; figures = n }) (length left) ≡ false = rw (over-takes-none (length left)) in
     rw (last, fed-none (at n Phase.Over left) xs none)
 behind-lasts f phase body left s known long (suc k) xs g lasts h =
     let n = next f phase body left s known long in

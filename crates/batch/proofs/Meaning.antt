@@ -20,14 +20,14 @@ use Rattle.cutting.specs.Cutting.{longestSheet, Cut, opened, byteCut, takesByte
 use Rattle.cutting.specs.Cutting as cutting
 use Rattle.cutting.proofs.Phases.{length-taken, body-taken, passing-taken, over-taken}
 use Rattle.figures.specs.declared.Figures.{Figures}
-use Rattle.figures.specs.Counting.{columnCount, mostSheets, noFigures, total, sheetsOf, counted, takesSheet}
+use Rattle.figures.specs.Counting.{columnCount, mostSheets, noFigures, sumOf, sheetsOf, counted, takesSheet}
 use Rattle.fields.specs.Entries.{Each, nilEach, consEach}
 use Rattle.figures.specs.Theorems.{InColumn, countedAll}
 use Rattle.figures.proofs.Counting.{sheets-counted, takes-counted, none-takes}
 use Rattle.figures.proofs.Tallies.{countedOneByOne}
-use Rattle.batch.specs.Season.{Sheet, cutOff, passedOver, whole, sheetsBehind, sheetsIn, solvedSheet, columnOf, figureOf, sheetFigure}
-use Rattle.batch.specs.Feeding.{Fed, countedSheet, behindSheet, afterFound, takesIn, fed, isCut, finishedFigures}
-use Rattle.batch.specs.Theorems.{started, fedPieces, joined, FedIsSeason, PiecesAreSeason}
+use Rattle.batch.specs.Season.{Sheet, cutOff, passedOver, whole, sheetsBehind, sheetsIn, solvedSheet, columnOf, figureOf, figureOfSheet}
+use Rattle.batch.specs.Feeding.{LentSeason, countedSheet, behindSheet, afterFound, seasonTakes, fed, isCut, finishedFigures}
+use Rattle.batch.specs.Theorems.{newSeason, fedPieces, joinedPieces, FedIsSeason, PiecesAreSeason}
 use Rattle.batch.proofs.Columns.{Countable, sheet-in-column}
 use Rattle.batch.proofs.Feeding.{at, fedInPieces, fed-none, fed-byte, still-takes-byte}
 
@@ -48,7 +48,7 @@ pub record Good (f : Figures) (phase : Phase) (body : List ℕ) (k : ℕ) : Type
 
 abbrev Ends : List ℕ → Type 0
 Ends xs = (f : Figures) (phase : Phase) (body : List ℕ) (k : ℕ) → Good f phase body k
-    → finishedFigures (fed (at f phase body) xs .season) ≡ countedAll f (map sheetFigure (remaining phase body k xs))
+    → finishedFigures (fed (at f phase body) xs .season) ≡ countedAll f (map figureOfSheet (remaining phase body k xs))
 
 -- ---- behind a sheet
 
@@ -87,11 +87,11 @@ module _ (f : Figures) (phase : Phase) (body left : List ℕ) (s : Solved) (know
       }
 
   behind-ends : (k : ℕ) (xs : List ℕ) → Good f phase body k → Ends xs
-      → finishedFigures (fed (record { season = behindSheet next; body = left }) xs .season) ≡ countedAll next (map sheetFigure (sheetsIn k xs))
+      → finishedFigures (fed (record { season = behindSheet next; body = left }) xs .season) ≡ countedAll next (map figureOfSheet (sheetsIn k xs))
   unfolding sheetsIn countedAll finishedFigures isCut remaining
   behind-ends zero xs g ends =
       let last : ltb (sheetsOf next) mostSheets ≡ false = le-ltb (sheetsOf next) mostSheets (omega (arith, one-more zero g, g .few)) in
-      let none : takesIn (record { phase = Phase.Over; figures = next }) (length left) ≡ false = rw (over-takes-none (length left)) in
+      let none : seasonTakes (record { phase = Phase.Over; figures = next }) (length left) ≡ false = rw (over-takes-none (length left)) in
       rw (last, fed-none (at next Phase.Over left) xs none)
   behind-ends (suc k) xs g ends =
       let on : ltb (sheetsOf next) mostSheets ≡ true = lt-ltb (sheetsOf next) mostSheets (omega (arith, one-more (suc k) g, g .few)) in
@@ -100,11 +100,11 @@ module _ (f : Figures) (phase : Phase) (body left : List ℕ) (s : Solved) (know
 -- ---- the end of the file
 
 cut-off : (f : Figures) (phase : Phase) → isCut phase ≡ true → takesSheet f ≡ true
-    → finishedFigures (record { phase = phase; figures = f }) ≡ countedAll f (map sheetFigure (cutOff ∷ []))
+    → finishedFigures (record { phase = phase; figures = f }) ≡ countedAll f (map figureOfSheet (cutOff ∷ []))
 unfolding finishedFigures countedAll solvedSheet
 cut-off f phase c t = rw (c, t)
 
-not-cut : (f : Figures) (phase : Phase) → isCut phase ≡ false → finishedFigures (record { phase = phase; figures = f }) ≡ countedAll f (map sheetFigure [])
+not-cut : (f : Figures) (phase : Phase) → isCut phase ≡ false → finishedFigures (record { phase = phase; figures = f }) ≡ countedAll f (map figureOfSheet [])
 unfolding finishedFigures countedAll
 not-cut f phase c = rw c
 
@@ -121,7 +121,7 @@ ends-here : Ends []
 unfolding fed remaining isCut
 ends-here f (Phase.Length zero) body k g = here
   where
-    here : finishedFigures (record { phase = Phase.Length 0; figures = f }) ≡ countedAll f (map sheetFigure (sheetsIn (suc k) []))
+    here : finishedFigures (record { phase = Phase.Length 0; figures = f }) ≡ countedAll f (map figureOfSheet (sheetsIn (suc k) []))
     here = rw (none-left k) (not-cut f (Phase.Length 0) refl)
 ends-here f (Phase.Length (suc n)) body k g =
     let t = length-taken (Phase.Length (suc n)) (length body) (g .byte) (suc n) refl in
@@ -160,18 +160,18 @@ ltb-next a b = go (ltb a b) refl
     go false e = le-ltb (suc a) (suc b) (let h = ltb-false a b e in omega (arith, h))
 
 -- what a byte leads to
-abbrev pub led : Figures → Cut → Fed
+abbrev pub led : Figures → Cut → LentSeason
 led f c = record { season = afterFound f (c .phase) (c .body) (c .found); body = c .body }
 
-abbrev Told : Figures → List Sheet → Fed → List ℕ → Type 0
-Told f sheets after xs = finishedFigures (fed after xs .season) ≡ countedAll f (map sheetFigure sheets)
+abbrev Told : Figures → List Sheet → LentSeason → List ℕ → Type 0
+Told f sheets after xs = finishedFigures (fed after xs .season) ≡ countedAll f (map figureOfSheet sheets)
 
 module _ (x : ℕ) (xs : List ℕ) (ends : Ends xs) (f : Figures) (body : List ℕ) (k : ℕ) where
   -- a phase goes on
   on : (phase next : Phase) (left : List ℕ) (sheets : List Sheet) → Good f phase body k → takesByte next (length left) ≡ true
       → remaining next left k xs ≡ sheets → Told f sheets (at f next left) xs
   on phase next left sheets g t e =
-      ends f next left k (record { columns = g .columns; sheet = g .sheet; byte = t; few = g .few }) ∙ ap (λ ss. countedAll f (map sheetFigure ss)) e
+      ends f next left k (record { columns = g .columns; sheet = g .sheet; byte = t; few = g .few }) ∙ ap (λ ss. countedAll f (map figureOfSheet ss)) e
 
   -- a sheet has come to its end
   done : (phase : Phase) (left : List ℕ) (sheet : Sheet) → Good f phase body k → length left ≡ length body
@@ -308,12 +308,12 @@ ends-all (x ∷ xs) = ends-byte x xs (ends-all xs)
 
 -- ---- from the start
 
-pub every : (sheets : List Sheet) → Each InColumn (map sheetFigure sheets)
+pub every : (sheets : List Sheet) → Each InColumn (map figureOfSheet sheets)
 every [] = nilEach
 every (s ∷ sheets) = consEach (sheet-in-column s .within) (every sheets)
 
 none-counted : sheetsOf noFigures ≡ 0
-unfolding total
+unfolding sumOf
 none-counted = refl
 
 pub start-good : (body : List ℕ) → 4 * longestSheet ≤ length body → Good noFigures (Phase.Length 0) body 9999
@@ -330,13 +330,13 @@ pub fedIsSeason : FedIsSeason
 unfolding remaining
 fedIsSeason body file room =
     ends-all file noFigures (Phase.Length 0) body 9999 (start-good body room)
-    ∙ countedOneByOne (map sheetFigure (sheetsIn mostSheets file)) (every (sheetsIn mostSheets file))
+    ∙ countedOneByOne (map figureOfSheet (sheetsIn mostSheets file)) (every (sheetsIn mostSheets file))
 
 -- however the file is cut
-fed-joined : (f : Fed) (pieces : List (List ℕ)) → fedPieces f pieces ≡ fed f (joined pieces)
-unfolding fedPieces joined fed
-fed-joined f [] = refl
-fed-joined f (xs ∷ pieces) = fed-joined (fed f xs) pieces ∙ sym (fedInPieces f xs (joined pieces))
+fed-joinedPieces : (f : LentSeason) (pieces : List (List ℕ)) → fedPieces f pieces ≡ fed f (joinedPieces pieces)
+unfolding fedPieces joinedPieces fed
+fed-joinedPieces f [] = refl
+fed-joinedPieces f (xs ∷ pieces) = fed-joinedPieces (fed f xs) pieces ∙ sym (fedInPieces f xs (joinedPieces pieces))
 
 pub piecesAreSeason : PiecesAreSeason
-piecesAreSeason body pieces room = ap (λ (f : Fed). finishedFigures (f .season)) (fed-joined (started body) pieces) ∙ fedIsSeason body (joined pieces) room
+piecesAreSeason body pieces room = ap (λ (f : LentSeason). finishedFigures (f .season)) (fed-joinedPieces (newSeason body) pieces) ∙ fedIsSeason body (joinedPieces pieces) room

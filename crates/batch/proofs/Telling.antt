@@ -24,8 +24,8 @@ use Rattle.figures.specs.Counting.{plannedColumn, mostSheets}
 use Rattle.figures.specs.Tallies.{isPlanned, costsOf}
 use Rattle.figures.proofs.Tallies.{countsAddUp}
 use Rattle.figures.proofs.Largest.{largestIsFirst, sumIsBounded}
-use Rattle.batch.specs.Season.{Sheet, cutOff, passedOver, whole, sheetsBehind, sheetsIn, solvedSheet, columnOf, sheetFigure, seasonSheets}
-use Rattle.batch.specs.Feeding.{Fed, afterFound, takesIn, byteTaken, fed}
+use Rattle.batch.specs.Season.{Sheet, cutOff, passedOver, whole, sheetsBehind, sheetsIn, solvedSheet, columnOf, figureOfSheet, seasonSheets}
+use Rattle.batch.specs.Feeding.{LentSeason, afterFound, seasonTakes, byteTaken, fed}
 use Rattle.batch.specs.Theorems.{NothingBehind, PlannedAt, SeasonMeans}
 use Rattle.batch.proofs.Columns.{OwnColumn, cut-column, long-column, fault-column, many-column, sheet-in-column}
 use Rattle.batch.proofs.Feeding.{at, fed-none, fed-byte}
@@ -80,38 +80,38 @@ bytes-least bytes = go (solvedOf bytes) (solvedMeans bytes)
     go _ (noWords h n) p = not-planned cut-column p
     go _ (ofWords s h e m) p = sheet-least (wordsIn bytes) s m p
 
-planned-at : (sheet : Sheet) → isPlanned (sheetFigure sheet) ≡ true → PlannedAt sheet (sheetFigure sheet .cost)
+planned-at : (sheet : Sheet) → isPlanned (figureOfSheet sheet) ≡ true → PlannedAt sheet (figureOfSheet sheet .cost)
 unfolding solvedSheet columnOf
 planned-at cutOff p = not-planned cut-column p
 planned-at passedOver p = not-planned long-column p
 planned-at (whole bytes) p = record { bytes = bytes; sheetHas = refl; least = bytes-least bytes p }
 
-every-planned : (sheets : List Sheet) → Each (λ sheet. isPlanned (sheetFigure sheet) ≡ true → PlannedAt sheet (sheetFigure sheet .cost)) sheets
+every-planned : (sheets : List Sheet) → Each (λ sheet. isPlanned (figureOfSheet sheet) ≡ true → PlannedAt sheet (figureOfSheet sheet .cost)) sheets
 every-planned [] = nilEach
 every-planned (s ∷ sheets) = consEach (planned-at s) (every-planned sheets)
 
-costs-cheap : (sheets : List Sheet) → Each (λ k. k ≤ greatestCost) (costsOf (map sheetFigure sheets))
+costs-cheap : (sheets : List Sheet) → Each (λ k. k ≤ greatestCost) (costsOf (map figureOfSheet sheets))
 unfolding costsOf
 costs-cheap [] = nilEach
-costs-cheap (s ∷ sheets) = go (isPlanned (sheetFigure s)) refl (costs-cheap sheets)
+costs-cheap (s ∷ sheets) = go (isPlanned (figureOfSheet s)) refl (costs-cheap sheets)
   where
-    go : (b : Bool) → isPlanned (sheetFigure s) ≡ b → Each (λ k. k ≤ greatestCost) (costsOf (map sheetFigure sheets))
-        → Each (λ k. k ≤ greatestCost) (cond b (sheetFigure s .cost ∷ costsOf (map sheetFigure sheets)) (costsOf (map sheetFigure sheets)))
-    go true e rest = consEach (sheet-in-column s .cheap (eqb-true (sheetFigure s .column) plannedColumn e)) rest
+    go : (b : Bool) → isPlanned (figureOfSheet s) ≡ b → Each (λ k. k ≤ greatestCost) (costsOf (map figureOfSheet sheets))
+        → Each (λ k. k ≤ greatestCost) (cond b (figureOfSheet s .cost ∷ costsOf (map figureOfSheet sheets)) (costsOf (map figureOfSheet sheets)))
+    go true e rest = consEach (sheet-in-column s .cheap (eqb-true (figureOfSheet s .column) plannedColumn e)) rest
     go false e rest = rest
 
 pub seasonMeans : SeasonMeans
 seasonMeans file =
     let sheets : List Sheet = seasonSheets file in
     let few = sheets-few mostSheets file in
-    let long = length-map sheets sheetFigure in
-    let sum = sumIsBounded (map sheetFigure sheets) (costs-cheap sheets) in
+    let long = length-map sheets figureOfSheet in
+    let sum = sumIsBounded (map figureOfSheet sheets) (costs-cheap sheets) in
     record {
       few = few;
       inColumns = every sheets;
-      adds = countsAddUp (map sheetFigure sheets) (every sheets) ∙ long;
+      adds = countsAddUp (map figureOfSheet sheets) (every sheets) ∙ long;
       planned = every-planned sheets;
-      largest = largestIsFirst (map sheetFigure sheets);
+      largest = largestIsFirst (map figureOfSheet sheets);
       bounded = omega (arith, few, long, sum);
     }
 
@@ -129,15 +129,15 @@ quiet Phase.Over body b h = absurd (omega (arith, h))
 pub nothingBehind : NothingBehind
 unfolding fed afterFound
 nothingBehind f [] h = refl
-nothingBehind f (x ∷ xs) h = go (takesIn (f .season) (length (f .body))) refl (λ g l. nothingBehind g xs l)
+nothingBehind f (x ∷ xs) h = go (seasonTakes (f .season) (length (f .body))) refl (λ g l. nothingBehind g xs l)
   where
-    go : (t : Bool) → takesIn (f .season) (length (f .body)) ≡ t
-        → ((g : Fed) → length xs < wantedIn (g .season .phase) → fed g xs .season .figures ≡ g .season .figures)
+    go : (t : Bool) → seasonTakes (f .season) (length (f .body)) ≡ t
+        → ((g : LentSeason) → length xs < wantedIn (g .season .phase) → fed g xs .season .figures ≡ g .season .figures)
         → fed f (x ∷ xs) .season .figures ≡ f .season .figures
     go true e ih =
         let c = byteCut (f .season .phase) (f .body) x in
         let q = quiet (f .season .phase) (f .body) x (omega (arith, h)) in
         let step : byteTaken (f .season) (f .body) x ≡ at (f .season .figures) (c .phase) (c .body) = rw (q .0) in
-        ap (λ (g : Fed). g .season .figures) (fed-byte f x xs e) ∙ ap (λ (g : Fed). fed g xs .season .figures) step
+        ap (λ (g : LentSeason). g .season .figures) (fed-byte f x xs e) ∙ ap (λ (g : LentSeason). fed g xs .season .figures) step
         ∙ ih (at (f .season .figures) (c .phase) (c .body)) (omega (arith, h, q .1))
-    go false e ih = ap (λ (g : Fed). g .season .figures) (fed-none f (x ∷ xs) e)
+    go false e ih = ap (λ (g : LentSeason). g .season .figures) (fed-none f (x ∷ xs) e)

@@ -16,7 +16,7 @@ use Rattle.batch.specs.declared.Season.{Season}
 use Rattle.batch.specs.Season.{figureOf}
 
 -- a season and the buffer that is lent to it
-pub record Fed : Type 0 where
+pub record LentSeason : Type 0 where
   pub season : Season
   pub body : List ℕ
 
@@ -39,20 +39,20 @@ afterFound f phase body (Found.Sheet end) = behindSheet (countedSheet f (solvedO
 afterFound f phase body Found.PassedOver = behindSheet (countedSheet f (refusedSolved 10))
 
 -- whether a byte is taken: a season that is over takes none, nor does a phase or a figure that no bytes lead to
-abbrev pub takesIn : Season → ℕ → Bool
-takesIn s room = takesByte (s .phase) room && takesSheet (s .figures)
+abbrev pub seasonTakes : Season → ℕ → Bool
+seasonTakes s room = takesByte (s .phase) room && takesSheet (s .figures)
 
 -- one byte
-abbrev pub byteTaken : Season → List ℕ → ℕ → Fed
+abbrev pub byteTaken : Season → List ℕ → ℕ → LentSeason
 byteTaken s body b =
     let c = byteCut (s .phase) body b in
     record { season = afterFound (s .figures) (c .phase) (c .body) (c .found); body = c .body }
 
-unfoldable pub fedByte : Fed → ℕ → Fed
-fedByte f b = cond (takesIn (f .season) (length (f .body))) (byteTaken (f .season) (f .body) b) f
+unfoldable pub fedByte : LentSeason → ℕ → LentSeason
+fedByte f b = cond (seasonTakes (f .season) (length (f .body))) (byteTaken (f .season) (f .body) b) f
 
 -- bytes, one after the other
-unfoldable pub fed : Fed → List ℕ → Fed
+unfoldable pub fed : LentSeason → List ℕ → LentSeason
 fed f [] = f
 fed f (b ∷ bs) = fed (fedByte f b) bs
 

@@ -25,7 +25,7 @@ pub data Sheet : Type 0 where
   -- its bytes
   whole : List ℕ → Sheet
 
--- behind a length of so many words: the season ends where they run past the file; k is how many sheets may follow
+-- behind a length of so many words: it runs past the file, which ends the season; else the sheet, and what follows its words
 unfoldable pub sheetsBehind : ℕ → List ℕ → (List ℕ → List Sheet) → List Sheet
 sheetsBehind words rest following =
     cond (ltb (length rest) (4 * words)) (cutOff ∷ [])
@@ -60,8 +60,8 @@ columnOf Ending.Full = 9
 abbrev pub figureOf : Solved → SheetFigure
 figureOf s = record { column = columnOf (s .ending); cost = s .bound }
 
-abbrev pub sheetFigure : Sheet → SheetFigure
-sheetFigure sheet = figureOf (solvedSheet sheet)
+abbrev pub figureOfSheet : Sheet → SheetFigure
+figureOfSheet sheet = figureOf (solvedSheet sheet)
 
 -- ---- the figures
 
@@ -70,7 +70,7 @@ abbrev pub seasonSheets : List ℕ → List Sheet
 seasonSheets file = sheetsIn mostSheets file
 
 abbrev pub seasonFigures : List ℕ → Figures
-seasonFigures file = figuresOf (map sheetFigure (seasonSheets file))
+seasonFigures file = figuresOf (map figureOfSheet (seasonSheets file))
 
 abbrev pub seasonLine : List ℕ → List ℕ
 seasonLine file = figuresLine (seasonFigures file)

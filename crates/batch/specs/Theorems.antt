@@ -16,42 +16,42 @@ use Rattle.cutting.specs.declared.Phase.{Phase}
 use Rattle.cutting.specs.Cutting.{longestSheet, wantedIn}
 use Rattle.figures.specs.Counting.{mostSheets, sheetsOf}
 use Rattle.figures.specs.Tallies.{isPlanned, costsOf}
-use Rattle.figures.specs.Theorems.{InColumn, Largest}
+use Rattle.figures.specs.Theorems.{InColumn, LargestOf}
 use Rattle.batch.specs.declared.Season.{Season}
-use Rattle.batch.specs.Season.{Sheet, whole, sheetFigure, seasonSheets, seasonFigures}
-use Rattle.batch.specs.Feeding.{Fed, startedSeason, takesIn, fed, finishedFigures}
+use Rattle.batch.specs.Season.{Sheet, whole, figureOfSheet, seasonSheets, seasonFigures}
+use Rattle.batch.specs.Feeding.{LentSeason, startedSeason, seasonTakes, fed, finishedFigures}
 
 -- ---- bytes in pieces
 
 -- a piece and then another lead where both together do
 abbrev pub FedInPieces : Type 0
-FedInPieces = (f : Fed) (xs ys : List ℕ) → fed f (xs ++ ys) ≡ fed (fed f xs) ys
+FedInPieces = (f : LentSeason) (xs ys : List ℕ) → fed f (xs ++ ys) ≡ fed (fed f xs) ys
 
 -- a new season with a buffer for the longest sheet, whatever lies in it
-abbrev pub started : List ℕ → Fed
-started body = record { season = startedSeason; body = body }
+abbrev pub newSeason : List ℕ → LentSeason
+newSeason body = record { season = startedSeason; body = body }
 
 -- a file's bytes lead to the file's figures
 abbrev pub FedIsSeason : Type 0
-FedIsSeason = (body file : List ℕ) → 4 * longestSheet ≤ length body → finishedFigures (fed (started body) file .season) ≡ seasonFigures file
+FedIsSeason = (body file : List ℕ) → 4 * longestSheet ≤ length body → finishedFigures (fed (newSeason body) file .season) ≡ seasonFigures file
 
 -- pieces that are fed one after the other
-unfoldable pub fedPieces : Fed → List (List ℕ) → Fed
+unfoldable pub fedPieces : LentSeason → List (List ℕ) → LentSeason
 fedPieces f [] = f
 fedPieces f (xs ∷ pieces) = fedPieces (fed f xs) pieces
 
-unfoldable pub joined : List (List ℕ) → List ℕ
-joined [] = []
-joined (xs ∷ pieces) = xs ++ joined pieces
+unfoldable pub joinedPieces : List (List ℕ) → List ℕ
+joinedPieces [] = []
+joinedPieces (xs ∷ pieces) = xs ++ joinedPieces pieces
 
 -- however the file is cut
 abbrev pub PiecesAreSeason : Type 0
 PiecesAreSeason = (body : List ℕ) (pieces : List (List ℕ)) → 4 * longestSheet ≤ length body
-    → finishedFigures (fedPieces (started body) pieces .season) ≡ seasonFigures (joined pieces)
+    → finishedFigures (fedPieces (newSeason body) pieces .season) ≡ seasonFigures (joinedPieces pieces)
 
 -- fewer bytes than a phase wants bring no sheet to its end, so a reader that asks for no more reads nothing behind the last sheet
 abbrev pub NothingBehind : Type 0
-NothingBehind = (f : Fed) (xs : List ℕ) → length xs < wantedIn (f .season .phase) → fed f xs .season .figures ≡ f .season .figures
+NothingBehind = (f : LentSeason) (xs : List ℕ) → length xs < wantedIn (f .season .phase) → fed f xs .season .figures ≡ f .season .figures
 
 -- the most bytes of a sheet: four of its length, and 4,294,967,295 words
 abbrev pub mostSheetBytes : ℕ
@@ -60,7 +60,7 @@ mostSheetBytes = 4 + 4 * 4294967295
 -- after so many bytes of 10,000 sheets a season is over, so a reader may end then
 abbrev pub SeasonEnds : Type 0
 SeasonEnds = (body file : List ℕ) → 4 * longestSheet ≤ length body → Each (λ b. b < 256) file → mostSheets * mostSheetBytes ≤ length file
-    → fed (started body) file .season .phase ≡ Phase.Over
+    → fed (newSeason body) file .season .phase ≡ Phase.Over
 
 -- ---- the figures
 
@@ -74,12 +74,12 @@ pub record SeasonTells (file : List ℕ) : Type 0 where
   -- at most 10,000 sheets
   pub few : length (seasonSheets file) ≤ mostSheets
   -- every sheet has one of the columns, and the counts add up to the sheets
-  pub inColumns : Each InColumn (map sheetFigure (seasonSheets file))
+  pub inColumns : Each InColumn (map figureOfSheet (seasonSheets file))
   pub adds : sheetsOf (seasonFigures file) ≡ length (seasonSheets file)
   -- each planned sheet's cost, as it is added to the sum, is the least of its own instance
-  pub planned : Each (λ sheet. isPlanned (sheetFigure sheet) ≡ true → PlannedAt sheet (sheetFigure sheet .cost)) (seasonSheets file)
+  pub planned : Each (λ sheet. isPlanned (figureOfSheet sheet) ≡ true → PlannedAt sheet (figureOfSheet sheet .cost)) (seasonSheets file)
   -- the largest and its sheet
-  pub largest : Largest (map sheetFigure (seasonSheets file)) (seasonFigures file .largest) (seasonFigures file .first)
+  pub largest : LargestOf (map figureOfSheet (seasonSheets file)) (seasonFigures file .largest) (seasonFigures file .first)
   -- no sum passes 10,000 times the greatest cost of a plan
   pub bounded : seasonFigures file .sum ≤ mostSheets * greatestCost
 

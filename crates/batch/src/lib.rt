@@ -9,7 +9,7 @@ ghost use Rattle.figures.specs.Counting.{columnCount, plannedColumn, counted, t
 ghost use Rattle.batch.specs.Season.{refusalColumn, columnOf};
 ghost use Rattle.planning.specs.Solving.{solvedOf};
 ghost use Rattle.cutting.specs.Pieces.{endOf};
-ghost use Rattle.batch.specs.Feeding.{startedSeason, countedSheet, behindSheet, afterFound, takesIn, fed, isCut, finishedFigures, finishedLine};
+ghost use Rattle.batch.specs.Feeding.{startedSeason, countedSheet, behindSheet, afterFound, seasonTakes, fed, isCut, finishedFigures, finishedLine};
 use cutting::Found;
 use cutting::Phase;
 use figures::Figures;
@@ -110,7 +110,7 @@ fn after(figures: Figures, phase: Phase, found: Found, body: &[u8]) -> Season
 }
 
 fn takes(season: Season, room: usize) -> bool
-    ensures { λ r. ⌜ r ≡ takesIn season room ⌝ }
+    ensures { λ r. ⌜ r ≡ seasonTakes season room ⌝ }
 {
     let phase = season.phase;
     cutting::takes(phase, room) && figures::takes(season.figures)

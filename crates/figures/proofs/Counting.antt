@@ -12,39 +12,39 @@ use borrow.Author.Tests.{ltb-true, leb-true, eqb-true, lt-ltb, le-ltb, le-leb, e
 use Rattle.wcsp.proofs.Lists.{and-left, and-right}
 use Rattle.fields.specs.Limits.{greatestCost}
 use Rattle.figures.specs.declared.Figures.{Figures}
-use Rattle.figures.specs.Counting.{plannedColumn, mostSheets, noFigures, total, sheetsOf, leads, counted, takesSheet}
+use Rattle.figures.specs.Counting.{plannedColumn, mostSheets, noFigures, sumOf, sheetsOf, leads, counted, takesSheet}
 pub use Rattle.figures.proofs.Spaces.{line-spaced}
 
 -- ---- the counts
 
 -- a count and those behind it
-pub total-next : (ks : List ℕ) (i : ℕ) → i < length ks → total (drop i ks) ≡ getD ks i 0 + total (drop (i + 1) ks)
-unfolding total
-total-next ks i h = rw (add-one i, drop-cons ks i 0 h)
+pub sumOf-next : (ks : List ℕ) (i : ℕ) → i < length ks → sumOf (drop i ks) ≡ getD ks i 0 + sumOf (drop (i + 1) ks)
+unfolding sumOf
+sumOf-next ks i h = rw (add-one i, drop-cons ks i 0 h)
 
 -- no count left
-pub total-end : (ks : List ℕ) (i : ℕ) → length ks ≤ i → total (drop i ks) ≡ 0
-unfolding total
-total-end ks i h = rw (drop-of-length-le ks h)
+pub sumOf-end : (ks : List ℕ) (i : ℕ) → length ks ≤ i → sumOf (drop i ks) ≡ 0
+unfolding sumOf
+sumOf-end ks i h = rw (drop-of-length-le ks h)
 
--- one count raised raises the total
-pub total-set : (ks : List ℕ) (i : ℕ) → i < length ks → total (set ks i (getD ks i 0 + 1)) ≡ total ks + 1
-unfolding total
-total-set [] i h = absurd (omega arith)
-total-set (k ∷ ks) zero h = omega arith
-total-set (k ∷ ks) (suc i) h = omega (arith, total-set ks i (omega arith))
+-- one count raised raises the sumOf
+pub sumOf-set : (ks : List ℕ) (i : ℕ) → i < length ks → sumOf (set ks i (getD ks i 0 + 1)) ≡ sumOf ks + 1
+unfolding sumOf
+sumOf-set [] i h = absurd (omega arith)
+sumOf-set (k ∷ ks) zero h = omega arith
+sumOf-set (k ∷ ks) (suc i) h = omega (arith, sumOf-set ks i (omega arith))
 
--- no count is above the total
-pub getD-total : (ks : List ℕ) (i : ℕ) → getD ks i 0 ≤ total ks
-unfolding total
-getD-total [] i = omega arith
-getD-total (k ∷ ks) zero = omega arith
-getD-total (k ∷ ks) (suc i) = omega (arith, getD-total ks i)
+-- no count is above the sumOf
+pub getD-sumOf : (ks : List ℕ) (i : ℕ) → getD ks i 0 ≤ sumOf ks
+unfolding sumOf
+getD-sumOf [] i = omega arith
+getD-sumOf (k ∷ ks) zero = omega arith
+getD-sumOf (k ∷ ks) (suc i) = omega (arith, getD-sumOf ks i)
 
 -- ---- room for a sheet
 
 pub none-takes : takesSheet noFigures ≡ true
-unfolding takesSheet total
+unfolding takesSheet sumOf
 none-takes = refl
 
 module _ (f : Figures) where
@@ -130,12 +130,12 @@ sum-within n s column cost h l = go (eqb column plannedColumn) refl
 module _ (f : Figures) (column cost : ℕ) (h : column < length (f .counts)) where
   pub sheets-counted : sheetsOf (counted f column cost) ≡ sheetsOf f + 1
   unfolding counted
-  sheets-counted = total-set (f .counts) column h
+  sheets-counted = sumOf-set (f .counts) column h
 
   -- room for a sheet stays as long as there are fewer than 10,000
   pub takes-counted : takesSheet f ≡ true → (column ≡ plannedColumn → cost ≤ greatestCost) → sheetsOf f + 1 < mostSheets
       → takesSheet (counted f column cost) ≡ true
   unfolding takesSheet counted
   takes-counted e l few =
-      rw (total-set (f .counts) column h, lt-ltb (sheetsOf f + 1) mostSheets few)
+      rw (sumOf-set (f .counts) column h, lt-ltb (sheetsOf f + 1) mostSheets few)
       (le-leb _ _ (sum-within (sheetsOf f) (f .sum) column cost (takes-sum f e) l))

@@ -9,9 +9,9 @@ use lib.Dec.{eqb}
 use borrow.Author.Tests.{eqb-true, eqb-false}
 use Rattle.fields.specs.Limits.{greatestCost}
 use Rattle.fields.specs.Entries.{Each, nilEach, consEach}
-use Rattle.figures.specs.Counting.{total}
-use Rattle.figures.specs.Tallies.{SheetFigure, isPlanned, costsOf, greatest, firstOf, figuresOf}
-use Rattle.figures.specs.Theorems.{Largest, nonePlanned, hasSheet, LargestIsFirst, SumIsBounded}
+use Rattle.figures.specs.Counting.{sumOf}
+use Rattle.figures.specs.Tallies.{SheetFigure, isPlanned, costsOf, greatest, firstAt, figuresOf}
+use Rattle.figures.specs.Theorems.{LargestOf, nonePlanned, hasSheet, LargestIsFirst, SumIsBounded}
 use Rattle.figures.proofs.Tallies.{first-none, costs-append}
 
 -- ---- every number of a list
@@ -52,22 +52,22 @@ later g i o os f _ nowhere = nowhere
 later g i o os f _ (stands before after p m e cut planned cost each) =
     stands (o ∷ before) after p m (e ∙ omega arith) (ap (λ ps. o ∷ ps) cut) planned cost (f before each)
 
-standing : (g i : ℕ) (os : List SheetFigure) → Standing g i os (firstOf g i os)
-unfolding firstOf costsOf
+standing : (g i : ℕ) (os : List SheetFigure) → Standing g i os (firstAt g i os)
+unfolding firstAt costsOf
 standing g i [] = nowhere
 standing g i (o ∷ os) = go (isPlanned o) (eqb (o .cost) g) refl refl (standing g (suc i) os)
   where
-    go : (a b : Bool) → isPlanned o ≡ a → eqb (o .cost) g ≡ b → Standing g (suc i) os (firstOf g (suc i) os)
-        → Standing g i (o ∷ os) (cond (a && b) i (firstOf g (suc i) os))
+    go : (a b : Bool) → isPlanned o ≡ a → eqb (o .cost) g ≡ b → Standing g (suc i) os (firstAt g (suc i) os)
+        → Standing g i (o ∷ os) (cond (a && b) i (firstAt g (suc i) os))
     go true true p e s = stands [] os o i (omega arith) refl p (eqb-true (o .cost) g e) nilEach
-    go true false p e s = later g i o os (λ before each. rw p (consEach (eqb-false (o .cost) g e) each)) (firstOf g (suc i) os) s
-    go false b p e s = later g i o os (λ before each. rw p each) (firstOf g (suc i) os) s
+    go true false p e s = later g i o os (λ before each. rw p (consEach (eqb-false (o .cost) g e) each)) (firstAt g (suc i) os) s
+    go false b p e s = later g i o os (λ before each. rw p each) (firstAt g (suc i) os) s
 
 pub largestIsFirst : LargestIsFirst
 unfolding costsOf greatest
-largestIsFirst os = go (firstOf (greatest (costsOf os)) 1 os) refl (standing (greatest (costsOf os)) 1 os)
+largestIsFirst os = go (firstAt (greatest (costsOf os)) 1 os) refl (standing (greatest (costsOf os)) 1 os)
   where
-    go : (m : ℕ) → firstOf (greatest (costsOf os)) 1 os ≡ m → Standing (greatest (costsOf os)) 1 os m → Largest os (greatest (costsOf os)) m
+    go : (m : ℕ) → firstAt (greatest (costsOf os)) 1 os ≡ m → Standing (greatest (costsOf os)) 1 os m → LargestOf os (greatest (costsOf os)) m
     go _ e nowhere =
         let none = first-none (greatest (costsOf os)) 0 os e refl in
         let zero : greatest (costsOf os) ≡ 0 = ap greatest none in
@@ -83,10 +83,10 @@ largestIsFirst os = go (firstOf (greatest (costsOf os)) 1 os) refl (standing (gr
 
 -- ---- the sum
 
-total-most : (ks : List ℕ) (g : ℕ) → Each (λ k. k ≤ g) ks → total ks ≤ length ks * g
-unfolding total
-total-most [] g nilEach = omega arith
-total-most (k ∷ ks) g (consEach h hs) = let ih = total-most ks g hs in omega (arith, h, ih)
+sumOf-most : (ks : List ℕ) (g : ℕ) → Each (λ k. k ≤ g) ks → sumOf ks ≤ length ks * g
+unfolding sumOf
+sumOf-most [] g nilEach = omega arith
+sumOf-most (k ∷ ks) g (consEach h hs) = let ih = sumOf-most ks g hs in omega (arith, h, ih)
 
 costs-few : (os : List SheetFigure) → length (costsOf os) ≤ length os
 unfolding costsOf
@@ -98,4 +98,4 @@ costs-few (o ∷ os) = go (isPlanned o) (costs-few os)
     go false ih = omega (arith, ih)
 
 pub sumIsBounded : SumIsBounded
-sumIsBounded os hs = let most = total-most (costsOf os) greatestCost hs in let few = costs-few os in omega (arith, most, few)
+sumIsBounded os hs = let most = sumOf-most (costsOf os) greatestCost hs in let few = costs-few os in omega (arith, most, few)

@@ -10,10 +10,10 @@ use lib.Dec.{eqb, ltb}
 use borrow.Author.Tests.{eq-eqb, ne-eqb, eqb-true, eqb-false, lt-ltb, le-ltb, ltb-true, ltb-false}
 use Rattle.fields.specs.Entries.{Each, nilEach, consEach}
 use Rattle.figures.specs.declared.Figures.{Figures}
-use Rattle.figures.specs.Counting.{columnCount, plannedColumn, noFigures, total, sheetsOf, leads, counted}
-use Rattle.figures.specs.Tallies.{SheetFigure, isPlanned, countIn, countsFrom, costsOf, greatest, firstOf, figuresOf}
+use Rattle.figures.specs.Counting.{columnCount, plannedColumn, noFigures, sumOf, sheetsOf, leads, counted}
+use Rattle.figures.specs.Tallies.{SheetFigure, isPlanned, countIn, countsFrom, costsOf, greatest, firstAt, figuresOf}
 use Rattle.figures.specs.Theorems.{InColumn, countedAll, CountedOneByOne, CountsAddUp}
-use Rattle.figures.proofs.Counting.{total-set}
+use Rattle.figures.proofs.Counting.{sumOf-set}
 
 -- one sheet alone behind some
 abbrev behind : List SheetFigure → SheetFigure → List SheetFigure
@@ -51,10 +51,10 @@ counts-behind c (suc k) (suc j) os o e h =
     ap (λ ks. countIn c os ∷ ks) (counts-behind (suc c) k j os o (omega (arith, e)) (omega (arith, h)))
     ∙ ap (λ n. n ∷ countsFrom (suc c) k (behind os o)) (sym same)
 
-total-none : (k c : ℕ) → total (countsFrom c k []) ≡ 0
-unfolding total countsFrom countIn
-total-none zero c = refl
-total-none (suc k) c = let ih = total-none k (suc c) in omega (arith, ih)
+sumOf-none : (k c : ℕ) → sumOf (countsFrom c k []) ≡ 0
+unfolding sumOf countsFrom countIn
+sumOf-none zero c = refl
+sumOf-none (suc k) c = let ih = sumOf-none k (suc c) in omega (arith, ih)
 
 -- ---- the costs
 
@@ -68,10 +68,10 @@ costs-append (o ∷ os) ps = go (isPlanned o) (costs-append os ps)
     go true ih = ap (λ ks. o .cost ∷ ks) ih
     go false ih = ih
 
-total-behind : (ks : List ℕ) (k : ℕ) → total (ks ++ (k ∷ [])) ≡ total ks + k
-unfolding total
-total-behind [] k = omega arith
-total-behind (j ∷ ks) k = let ih = total-behind ks k in omega (arith, ih)
+sumOf-behind : (ks : List ℕ) (k : ℕ) → sumOf (ks ++ (k ∷ [])) ≡ sumOf ks + k
+unfolding sumOf
+sumOf-behind [] k = omega arith
+sumOf-behind (j ∷ ks) k = let ih = sumOf-behind ks k in omega (arith, ih)
 
 greatest-append : (ks js : List ℕ) → greatest (ks ++ js) ≡ max (greatest ks) (greatest js)
 unfolding greatest
@@ -81,26 +81,26 @@ greatest-append (k ∷ ks) js = let ih = greatest-append ks js in omega (arith, 
 -- ---- the first sheet of a cost
 
 -- a cost above the greatest has no sheet
-first-above : (g i : ℕ) (os : List SheetFigure) → greatest (costsOf os) < g → firstOf g i os ≡ 0
-unfolding firstOf costsOf greatest
+first-above : (g i : ℕ) (os : List SheetFigure) → greatest (costsOf os) < g → firstAt g i os ≡ 0
+unfolding firstAt costsOf greatest
 first-above g i [] h = refl
 first-above g i (o ∷ os) h = go (isPlanned o) (eqb (o .cost) g) refl h (first-above g (suc i) os)
   where
     go : (a b : Bool) → eqb (o .cost) g ≡ b → greatest (cond a (o .cost ∷ costsOf os) (costsOf os)) < g
-        → (greatest (costsOf os) < g → firstOf g (suc i) os ≡ 0) → cond (a && b) i (firstOf g (suc i) os) ≡ 0
+        → (greatest (costsOf os) < g → firstAt g (suc i) os ≡ 0) → cond (a && b) i (firstAt g (suc i) os) ≡ 0
     go true true e h ih = absurd (let f = eqb-true (o .cost) g e in omega (arith, h, f))
     go true false e h ih = ih (omega (arith, h))
     go false b e h ih = ih h
 
 -- a first sheet of a cost is 0 only if none was planned, or none at the greatest
-pub first-none : (g i : ℕ) (os : List SheetFigure) → firstOf g (suc i) os ≡ 0 → greatest (costsOf os) ≡ g → costsOf os ≡ []
-unfolding firstOf costsOf greatest
+pub first-none : (g i : ℕ) (os : List SheetFigure) → firstAt g (suc i) os ≡ 0 → greatest (costsOf os) ≡ g → costsOf os ≡ []
+unfolding firstAt costsOf greatest
 first-none g i [] h e = refl
 first-none g i (o ∷ os) h e = go (isPlanned o) (eqb (o .cost) g) refl h e (first-none g (suc i) os)
   where
-    go : (a b : Bool) → eqb (o .cost) g ≡ b → cond (a && b) (suc i) (firstOf g (suc (suc i)) os) ≡ 0
+    go : (a b : Bool) → eqb (o .cost) g ≡ b → cond (a && b) (suc i) (firstAt g (suc (suc i)) os) ≡ 0
         → greatest (cond a (o .cost ∷ costsOf os) (costsOf os)) ≡ g
-        → (firstOf g (suc (suc i)) os ≡ 0 → greatest (costsOf os) ≡ g → costsOf os ≡ []) → cond a (o .cost ∷ costsOf os) (costsOf os) ≡ []
+        → (firstAt g (suc (suc i)) os ≡ 0 → greatest (costsOf os) ≡ g → costsOf os ≡ []) → cond a (o .cost ∷ costsOf os) (costsOf os) ≡ []
     go true true c h e ih = absurd (omega (arith, h))
     go true false c h e ih =
         let n = eqb-false (o .cost) g c in
@@ -110,30 +110,30 @@ first-none g i (o ∷ os) h e = go (isPlanned o) (eqb (o .cost) g) refl h e (fir
     go false b c h e ih = ih h e
 
 -- the first sheet of a cost among some and one more
-first-behind : (g i : ℕ) (os : List SheetFigure) (o : SheetFigure) → firstOf g (suc i) (behind os o)
-    ≡ cond (eqb (firstOf g (suc i) os) 0) (cond (isPlanned o && eqb (o .cost) g) (suc i + length os) 0) (firstOf g (suc i) os)
-unfolding firstOf
+first-behind : (g i : ℕ) (os : List SheetFigure) (o : SheetFigure) → firstAt g (suc i) (behind os o)
+    ≡ cond (eqb (firstAt g (suc i) os) 0) (cond (isPlanned o && eqb (o .cost) g) (suc i + length os) 0) (firstAt g (suc i) os)
+unfolding firstAt
 first-behind g i [] o = ap (λ k. cond (isPlanned o && eqb (o .cost) g) k 0) (omega arith)
 first-behind g i (p ∷ os) o = go (isPlanned p && eqb (p .cost) g) (first-behind g (suc i) os o)
   where
     go : (b : Bool)
-        → firstOf g (suc (suc i)) (behind os o)
-        ≡ cond (eqb (firstOf g (suc (suc i)) os) 0) (cond (isPlanned o && eqb (o .cost) g) (suc (suc i) + length os) 0) (firstOf g (suc (suc i)) os)
-        → cond b (suc i) (firstOf g (suc (suc i)) (behind os o))
-        ≡ cond (eqb (cond b (suc i) (firstOf g (suc (suc i)) os)) 0) (cond (isPlanned o && eqb (o .cost) g) (suc i + suc (length os)) 0) (cond b (suc i) (firstOf g (suc (suc i)) os))
+        → firstAt g (suc (suc i)) (behind os o)
+        ≡ cond (eqb (firstAt g (suc (suc i)) os) 0) (cond (isPlanned o && eqb (o .cost) g) (suc (suc i) + length os) 0) (firstAt g (suc (suc i)) os)
+        → cond b (suc i) (firstAt g (suc (suc i)) (behind os o))
+        ≡ cond (eqb (cond b (suc i) (firstAt g (suc (suc i)) os)) 0) (cond (isPlanned o && eqb (o .cost) g) (suc i + suc (length os)) 0) (cond b (suc i) (firstAt g (suc (suc i)) os))
     go true ih = rw (ne-eqb (suc i) 0 (λ (e : suc i ≡ 0). omega (arith, e)))
     go false ih =
         let next : suc (suc i) + length os ≡ suc i + suc (length os) = omega arith in
         rw next at ih
 
 -- no sheet has a cost where none was planned
-first-of-none : (g i : ℕ) (os : List SheetFigure) → costsOf os ≡ [] → firstOf g i os ≡ 0
-unfolding firstOf costsOf
+first-of-none : (g i : ℕ) (os : List SheetFigure) → costsOf os ≡ [] → firstAt g i os ≡ 0
+unfolding firstAt costsOf
 first-of-none g i [] h = refl
 first-of-none g i (o ∷ os) h = go (isPlanned o) h (first-of-none g (suc i) os)
   where
-    go : (a : Bool) → cond a (o .cost ∷ costsOf os) (costsOf os) ≡ [] → (costsOf os ≡ [] → firstOf g (suc i) os ≡ 0)
-        → cond (a && eqb (o .cost) g) i (firstOf g (suc i) os) ≡ 0
+    go : (a : Bool) → cond a (o .cost ∷ costsOf os) (costsOf os) ≡ [] → (costsOf os ≡ [] → firstAt g (suc i) os ≡ 0)
+        → cond (a && eqb (o .cost) g) i (firstAt g (suc i) os) ≡ 0
     go true h ih = absurd (let z : _≡_ {A = ℕ} (suc (length (costsOf os))) 0 = ap length h in omega (arith, z))
     go false h ih = ih h
 
@@ -150,13 +150,13 @@ module _ (os : List SheetFigure) (o : SheetFigure) where
   costs-behind true e = rw e at (costs-append os (o ∷ []))
   costs-behind false e = rw e at (costs-append os (o ∷ [])) ∙ append-nil (costsOf os)
 
-  sum-behind : (b : Bool) → isPlanned o ≡ b → cond b (total (costsOf os) + o .cost) (total (costsOf os)) ≡ total (costsOf (behind os o))
-  sum-behind true e = rw (costs-behind true e) (sym (total-behind (costsOf os) (o .cost)))
+  sum-behind : (b : Bool) → isPlanned o ≡ b → cond b (sumOf (costsOf os) + o .cost) (sumOf (costsOf os)) ≡ sumOf (costsOf (behind os o))
+  sum-behind true e = rw (costs-behind true e) (sym (sumOf-behind (costsOf os) (o .cost)))
   sum-behind false e = rw (costs-behind false e)
 
   -- a sheet that leads is planned, above all before it
-  leading : isPlanned o ≡ true → firstOf (o .cost) 1 os ≡ 0 → greatest (costsOf os) ≤ o .cost
-      → (o .cost ≡ greatest (costsOf (behind os o))) × (length os + 1 ≡ firstOf (greatest (costsOf (behind os o))) 1 (behind os o))
+  leading : isPlanned o ≡ true → firstAt (o .cost) 1 os ≡ 0 → greatest (costsOf os) ≤ o .cost
+      → (o .cost ≡ greatest (costsOf (behind os o))) × (length os + 1 ≡ firstAt (greatest (costsOf (behind os o))) 1 (behind os o))
   unfolding greatest
   leading e none h =
       let most : greatest (costsOf (behind os o)) ≡ o .cost
@@ -164,22 +164,22 @@ module _ (os : List SheetFigure) (o : SheetFigure) where
       (sym most, rw (most, first-behind (o .cost) 0 os o, none, e, eq-eqb (o .cost) (o .cost) refl) (omega arith))
 
   -- a planned sheet that does not lead
-  trailing : isPlanned o ≡ true → (firstOf (greatest (costsOf os)) 1 os ≡ 0 → ⊥) → o .cost ≤ greatest (costsOf os)
+  trailing : isPlanned o ≡ true → (firstAt (greatest (costsOf os)) 1 os ≡ 0 → ⊥) → o .cost ≤ greatest (costsOf os)
       → (greatest (costsOf os) ≡ greatest (costsOf (behind os o)))
-      × (firstOf (greatest (costsOf os)) 1 os ≡ firstOf (greatest (costsOf (behind os o))) 1 (behind os o))
+      × (firstAt (greatest (costsOf os)) 1 os ≡ firstAt (greatest (costsOf (behind os o))) 1 (behind os o))
   unfolding greatest
   trailing e some h =
       let most : greatest (costsOf (behind os o)) ≡ greatest (costsOf os)
       = ap greatest (costs-behind true e) ∙ (let m = greatest-append (costsOf os) (o .cost ∷ []) in omega (arith, h, m)) in
-      (sym most, rw (most, first-behind (greatest (costsOf os)) 0 os o, ne-eqb (firstOf (greatest (costsOf os)) 1 os) 0 some))
+      (sym most, rw (most, first-behind (greatest (costsOf os)) 0 os o, ne-eqb (firstAt (greatest (costsOf os)) 1 os) 0 some))
 
   -- a sheet that is not planned
   unplanned : isPlanned o ≡ false
       → (greatest (costsOf os) ≡ greatest (costsOf (behind os o)))
-      × (firstOf (greatest (costsOf os)) 1 os ≡ firstOf (greatest (costsOf (behind os o))) 1 (behind os o))
+      × (firstAt (greatest (costsOf os)) 1 os ≡ firstAt (greatest (costsOf (behind os o))) 1 (behind os o))
   unplanned e =
       let most : greatest (costsOf (behind os o)) ≡ greatest (costsOf os) = ap greatest (costs-behind false e) in
-      (sym most, rw (most, first-behind (greatest (costsOf os)) 0 os o, e) (kept (firstOf (greatest (costsOf os)) 1 os)))
+      (sym most, rw (most, first-behind (greatest (costsOf os)) 0 os o, e) (kept (firstAt (greatest (costsOf os)) 1 os)))
     where
       kept : (k : ℕ) → k ≡ cond (eqb k 0) 0 k
       kept zero = refl
@@ -188,25 +188,25 @@ module _ (os : List SheetFigure) (o : SheetFigure) where
   -- the largest and its sheet as they are counted
   lead-behind : (l : ℕ) → l ≡ length os
       → (cond (leads (figuresOf os) (o .column) (o .cost)) (o .cost) (greatest (costsOf os)) ≡ greatest (costsOf (behind os o)))
-      × (cond (leads (figuresOf os) (o .column) (o .cost)) (l + 1) (firstOf (greatest (costsOf os)) 1 os)
-      ≡ firstOf (greatest (costsOf (behind os o))) 1 (behind os o))
+      × (cond (leads (figuresOf os) (o .column) (o .cost)) (l + 1) (firstAt (greatest (costsOf os)) 1 os)
+      ≡ firstAt (greatest (costsOf (behind os o))) 1 (behind os o))
   unfolding leads greatest
-  lead-behind l e = go (isPlanned o) (eqb (firstOf (greatest (costsOf os)) 1 os) 0) (ltb (greatest (costsOf os)) (o .cost)) refl refl refl
+  lead-behind l e = go (isPlanned o) (eqb (firstAt (greatest (costsOf os)) 1 os) 0) (ltb (greatest (costsOf os)) (o .cost)) refl refl refl
     where
       Wanted : Bool → Type 0
       Wanted b = (cond b (o .cost) (greatest (costsOf os)) ≡ greatest (costsOf (behind os o)))
-          × (cond b (l + 1) (firstOf (greatest (costsOf os)) 1 os) ≡ firstOf (greatest (costsOf (behind os o))) 1 (behind os o))
+          × (cond b (l + 1) (firstAt (greatest (costsOf os)) 1 os) ≡ firstAt (greatest (costsOf (behind os o))) 1 (behind os o))
 
-      go : (a b c : Bool) → isPlanned o ≡ a → eqb (firstOf (greatest (costsOf os)) 1 os) 0 ≡ b → ltb (greatest (costsOf os)) (o .cost) ≡ c
+      go : (a b c : Bool) → isPlanned o ≡ a → eqb (firstAt (greatest (costsOf os)) 1 os) 0 ≡ b → ltb (greatest (costsOf os)) (o .cost) ≡ c
           → Wanted (a && (b || c))
       go false b c p f h = unplanned p
       go true true c p f h =
-          let none = first-none (greatest (costsOf os)) 0 os (eqb-true (firstOf (greatest (costsOf os)) 1 os) 0 f) refl in
+          let none = first-none (greatest (costsOf os)) 0 os (eqb-true (firstAt (greatest (costsOf os)) 1 os) 0 f) refl in
           rw e (leading p (first-of-none (o .cost) 1 os none) (let z = ap greatest none in omega (arith, z)))
       go true false true p f h =
           let below = ltb-true (greatest (costsOf os)) (o .cost) h in
           rw e (leading p (first-above (o .cost) 1 os below) (omega (arith, below)))
-      go true false false p f h = trailing p (eqb-false (firstOf (greatest (costsOf os)) 1 os) 0 f) (ltb-false (greatest (costsOf os)) (o .cost) h)
+      go true false false p f h = trailing p (eqb-false (firstAt (greatest (costsOf os)) 1 os) 0 f) (ltb-false (greatest (costsOf os)) (o .cost) h)
 
 counted-behind : (os : List SheetFigure) (o : SheetFigure) → InColumn o → sheetsOf (figuresOf os) ≡ length os
     → counted (figuresOf os) (o .column) (o .cost) ≡ figuresOf (behind os o)
@@ -224,8 +224,8 @@ sheets-behind : (os : List SheetFigure) (o : SheetFigure) → InColumn o → she
     → sheetsOf (figuresOf (behind os o)) ≡ length (behind os o)
 sheets-behind os o h e =
     let room : o .column < length (countsFrom 0 columnCount os) = rw (counts-long 0 columnCount os) h in
-    ap total (sym (counts-behind 0 columnCount (o .column) os o (omega arith) h))
-    ∙ total-set (countsFrom 0 columnCount os) (o .column) room
+    ap sumOf (sym (counts-behind 0 columnCount (o .column) os o (omega arith) h))
+    ∙ sumOf-set (countsFrom 0 columnCount os) (o .column) room
     ∙ ap (λ n. n + 1) e
     ∙ sym (length-append os (o ∷ []))
 
@@ -239,11 +239,11 @@ one-by-one ps (o ∷ os) e (consEach h hs) =
     rw (counted-behind ps o h e, ← append-snoc ps o os) (one-by-one (behind ps o) os (sheets-behind ps o h e) hs)
 
 none-counted : noFigures ≡ figuresOf []
-unfolding countsFrom countIn costsOf greatest firstOf total
+unfolding countsFrom countIn costsOf greatest firstAt sumOf
 none-counted = refl
 
 none-sheets : sheetsOf (figuresOf []) ≡ 0
-none-sheets = total-none columnCount 0
+none-sheets = sumOf-none columnCount 0
 
 pub countedOneByOne : CountedOneByOne
 countedOneByOne os hs = rw none-counted (one-by-one [] os none-sheets hs .0)

@@ -23,13 +23,13 @@ mostSheets = 10000
 abbrev pub noFigures : Figures
 noFigures = record { counts = replicate columnCount 0; sum = 0; largest = 0; first = 0 }
 
-unfoldable pub total : List ℕ → ℕ
-total [] = 0
-total (k ∷ ks) = k + total ks
+unfoldable pub sumOf : List ℕ → ℕ
+sumOf [] = 0
+sumOf (k ∷ ks) = k + sumOf ks
 
 -- every sheet has one column, so the counts add up to the sheets so far
 abbrev pub sheetsOf : Figures → ℕ
-sheetsOf f = total (f .counts)
+sheetsOf f = sumOf (f .counts)
 
 -- a planned sheet leads if it is the first, or its cost is above the largest so far
 unfoldable pub leads : Figures → ℕ → ℕ → Bool

@@ -5,7 +5,7 @@ use mathlib.Core.Bool.{Bool, cond, _&&_}
 use mathlib.Core.List.{List, [], _∷_}
 use lib.Dec.{eqb}
 use Rattle.figures.specs.declared.Figures.{Figures}
-use Rattle.figures.specs.Counting.{columnCount, plannedColumn, total}
+use Rattle.figures.specs.Counting.{columnCount, plannedColumn, sumOf}
 
 -- what a sheet came to: its column, and its least cost if it was planned
 pub record SheetFigure : Type 0 where
@@ -36,16 +36,16 @@ greatest [] = 0
 greatest (k ∷ ks) = max k (greatest ks)
 
 -- the first sheet that was planned at a cost, the sheets counting from i; 0 if there is none
-unfoldable pub firstOf : ℕ → ℕ → List SheetFigure → ℕ
-firstOf cost i [] = 0
-firstOf cost i (o ∷ os) = cond (isPlanned o && eqb (o .cost) cost) i (firstOf cost (suc i) os)
+unfoldable pub firstAt : ℕ → ℕ → List SheetFigure → ℕ
+firstAt cost i [] = 0
+firstAt cost i (o ∷ os) = cond (isPlanned o && eqb (o .cost) cost) i (firstAt cost (suc i) os)
 
 -- sheets count from 1
 abbrev pub figuresOf : List SheetFigure → Figures
 figuresOf os =
     record {
       counts = countsFrom 0 columnCount os;
-      sum = total (costsOf os);
+      sum = sumOf (costsOf os);
       largest = greatest (costsOf os);
-      first = firstOf (greatest (costsOf os)) 1 os;
+      first = firstAt (greatest (costsOf os)) 1 os;
     }

@@ -27,15 +27,15 @@ abbrev pub CountsAddUp : Type 0
 CountsAddUp = (os : List SheetFigure) → Each InColumn os → sheetsOf (figuresOf os) ≡ length os
 
 -- a largest least cost and its sheet, which counts from 1
-pub data Largest (os : List SheetFigure) : ℕ → ℕ → Type 0 where
+pub data LargestOf (os : List SheetFigure) : ℕ → ℕ → Type 0 where
   -- none was planned
-  nonePlanned : costsOf os ≡ [] → Largest os 0 0
+  nonePlanned : costsOf os ≡ [] → LargestOf os 0 0
   -- the sheet behind some others was planned at this cost, every planned one before it below and none behind it above
   hasSheet : (before after : List SheetFigure) (o : SheetFigure) → os ≡ before ++ (o ∷ after) → isPlanned o ≡ true
-      → Each (λ k. k < o .cost) (costsOf before) → Each (λ k. k ≤ o .cost) (costsOf after) → Largest os (o .cost) (suc (length before))
+      → Each (λ k. k < o .cost) (costsOf before) → Each (λ k. k ≤ o .cost) (costsOf after) → LargestOf os (o .cost) (suc (length before))
 
 abbrev pub LargestIsFirst : Type 0
-LargestIsFirst = (os : List SheetFigure) → Largest os (figuresOf os .largest) (figuresOf os .first)
+LargestIsFirst = (os : List SheetFigure) → LargestOf os (figuresOf os .largest) (figuresOf os .first)
 
 -- no sum passes what so many plans can cost
 abbrev pub SumIsBounded : Type 0

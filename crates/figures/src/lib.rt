@@ -5,7 +5,7 @@ ghost use mathlib.Core.Path.{_≡_};
 ghost use mathlib.Core.Bool.{true};
 ghost use Prim.Native.Nat.{_≤_, _<_};
 ghost use Rattle.fields.specs.Limits.{greatestCost};
-ghost use Rattle.figures.specs.Counting.{columnCount, plannedColumn, noFigures, total, sheetsOf, leads, counted, takesSheet};
+ghost use Rattle.figures.specs.Counting.{columnCount, plannedColumn, noFigures, sumOf, sheetsOf, leads, counted, takesSheet};
 
 pub const COLUMNS: usize = 10;
 
@@ -40,7 +40,7 @@ pub fn none() -> Figures
 }
 
 fn sum_of(counts: [u32; COLUMNS]) -> u64
-    ensures { λ r. ⌜ r ≡ total counts ⌝ }
+    ensures { λ r. ⌜ r ≡ sumOf counts ⌝ }
 {
     let mut sum: u64 = 0;
     let mut i = 0;

@@ -3,7 +3,7 @@ use borrow.Author.Needs.{needs}
 use native.Mathlib.Omega.{arith}
 use mathlib.Core.Path.{_≡_}
 use mathlib.Core.Logic.{⊎-elim}
-use Rattle.figures.proofs.Counting.{getD-total, takes-sheets, takes-sum, added, added-planned, added-other, counted-leading, counted-behind}
+use Rattle.figures.proofs.Counting.{getD-sumOf, takes-sheets, takes-sum, added, added-planned, added-other, counted-leading, counted-behind}
 use Rattle.figures.proofs.count.Statement.{statement}
 use Rattle.figures.proofs.count.Tie as tie
 
@@ -13,7 +13,7 @@ add-number c = omega (arith, takes-sheets (c .before .args .figures) (c .before 
 add-next : tie.Need-add-next
 add-next c =
     let s = c .before .before .before in
-    omega (arith, takes-sheets (s .args .figures) (s .pre .0 .0), getD-total (s .args .figures .counts) (s .args .column))
+    omega (arith, takes-sheets (s .args .figures) (s .pre .0 .0), getD-sumOf (s .args .figures .counts) (s .args .column))
 
 add-next-2 : tie.Need-add-next-2
 add-next-2 c =

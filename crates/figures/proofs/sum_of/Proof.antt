@@ -6,13 +6,13 @@ use mathlib.Core.Path.{_≡_}
 use lib.ListN.{getD, drop}
 use mir.Syntax.{w32}
 use mir.Val.{Fits}
-use Rattle.figures.specs.Counting.{columnCount, total}
-use Rattle.figures.proofs.Counting.{total-next, total-end}
+use Rattle.figures.specs.Counting.{columnCount, sumOf}
+use Rattle.figures.proofs.Counting.{sumOf-next, sumOf-end}
 use Rattle.figures.proofs.sum_of.Statement.{statement}
 use Rattle.figures.proofs.sum_of.Tie as tie
 
 abbrev Inv-loop : tie.InvT-loop
-Inv-loop counts sum₀ i₀ sum i = (sum + total (drop i counts) ≡ total counts) × (sum ≤ 4294967295 * i) × (i ≤ columnCount)
+Inv-loop counts sum₀ i₀ sum i = (sum + sumOf (drop i counts) ≡ sumOf counts) × (sum ≤ 4294967295 * i) × (i ≤ columnCount)
 
 abbrev μ-loop : tie.MeasureT-loop
 μ-loop counts sum₀ i₀ sum i = columnCount - i
@@ -42,10 +42,10 @@ loop-less : tie.Need-loop-less Inv-loop μ-loop
 loop-less c = omega arith
 
 loop-again : tie.Need-loop-again Inv-loop μ-loop
-loop-again c = omega (arith, small c, total-next (c .before .before .args .t1) (c .before .loop .i) (omega arith))
+loop-again c = omega (arith, small c, sumOf-next (c .before .before .args .t1) (c .before .loop .i) (omega arith))
 
 returns : tie.Need-returns Inv-loop μ-loop
-returns c = omega (arith, total-end (c .before .before .args .t1) (c .before .loop .i) (omega arith))
+returns c = omega (arith, sumOf-end (c .before .before .args .t1) (c .before .loop .i) (omega arith))
 
 pub sum-of-spec : {M : Type 1} → statement M
 sum-of-spec =
