@@ -32,9 +32,9 @@ def shown(arguments):
     return " ".join(["sheet", *arguments])
 
 
-def ran(arguments, source):
+def ran(arguments, source, **options):
     """Exit status, standard output and standard error of the command."""
-    done = subprocess.run([TOOL, *arguments], input=source, capture_output=True, cwd=ROOT)
+    done = subprocess.run([TOOL, *arguments], input=source, capture_output=True, cwd=ROOT, **options)
     return done.returncode, done.stdout, done.stderr.decode()
 
 

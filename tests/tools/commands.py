@@ -1,11 +1,12 @@
 """The command itself: files and standard input, and what is said of files that are not there."""
 
+import os
 import subprocess
 
 from checks import TOOL
 from examples import EXAMPLES, content
 from reference.fields import as_bytes, sheet
-from sheets.command import USAGE
+from sheets.usage import USAGE
 from text_faults import UNKNOWN
 
 # Every kind of line as it is written back, with a place left of and below the mark.
@@ -41,15 +42,23 @@ def run(checks):
                  "standard input, word 0: the sheet ends where the number of stations is due (refusal 1)")
     checks.fails(["words", "examples/none.txt"], b"", "examples/none.txt: No such file or directory")
     checks.fails(["text", "examples"], b"", "examples: Is a directory")
-    for arguments in [[], ["words"], ["sheet", "-"], ["text", "-", "-"]]:
+    for arguments in [[], ["words"], ["sheet", "-"], ["text", "-", "-"], ["--help"], *season_misuses()]:
         checks.fails(arguments, b"", USAGE)
     for command, name in [("words", "corner.txt"), ("words", "terraces.txt"), ("text", "terraces.sheet")]:
         checks.same(f"sheet {command} examples/{name} to a full device", written_to_full(command, name),
                     (1, "standard output: No space left on device\n"))
 
 
-def written_to_full(command, name):
-    """Exit status and standard error where the standard output takes no byte."""
+def season_misuses():
+    """Commands for seasons that there are not, and names too few and too many."""
+    for names in ([], ["pack"], ["unpack"], ["unpack", "-"], ["unpack", "--text", "-"], ["unpack", "-", "a", "b"],
+                  ["unpack", "--text", "-", "a", "b"], ["why"], ["why", "-", "-"], ["text", "-"], ["--help"]):
+        yield ["season", *names]
+
+
+def written_to_full(*arguments):
+    """Exit status and standard error where the standard output takes no byte, but has a buffer before it; files are examples."""
+    environment = {name: value for name, value in os.environ.items() if name != "PYTHONUNBUFFERED"}
     with open("/dev/full", "wb") as full:
-        done = subprocess.run([TOOL, command, EXAMPLES / name], stdout=full, stderr=subprocess.PIPE)
+        done = subprocess.run([TOOL, *arguments], stdout=full, stderr=subprocess.PIPE, cwd=EXAMPLES, env=environment)
     return done.returncode, done.stderr.decode()

@@ -1,4 +1,4 @@
-"""The examples: their words made anew, and their plans anew by the reference program."""
+"""The examples: their words made anew, and their plans anew by the reference program; the season of all three and its figures."""
 
 from checks import ROOT
 from reference import printed_plan
@@ -16,6 +16,7 @@ def run(checks):
     for name in NAMES:
         check_example(checks, name)
     checks.same("examples/corner.plan", content("corner.plan"), CORNER_PLAN)
+    check_season(checks)
 
 
 def content(name):
@@ -27,3 +28,13 @@ def check_example(checks, name):
     checks.answers(["words", f"examples/{name}.txt"], b"", sheet)
     checks.same(f"the plan of examples/{name}.sheet", printed_plan(sheet), plan)
     checks.same(f"the first line of examples/{name}.plan", plan.split(b"\n")[0], b"PLAN")
+
+
+def check_season(checks):
+    """The season of the three examples, none of which is refused, and the figures that their plans come to."""
+    for ending in ["season", "figures"]:
+        checks.same(f"examples/*.{ending}", [path.stem for path in EXAMPLES.glob(f"*.{ending}")], ["three"])
+    checks.answers(["season", "pack", *(f"examples/{name}.txt" for name in NAMES)], b"", content("three.season"))
+    costs = [int(content(f"{name}.plan").split()[2]) for name in NAMES]
+    figures = [len(NAMES), *[0] * 9, sum(costs), max(costs), costs.index(max(costs)) + 1]
+    checks.same("examples/three.figures", content("three.figures").decode(), " ".join(map(str, figures)) + "\n")

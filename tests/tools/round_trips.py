@@ -5,7 +5,7 @@ import random
 from checks import ROOT
 from reference import fields
 from reference.limits import MAX_COORDINATE, MAX_COST, MAX_SIZE, MAX_VARIABLES
-from sheets.command import text_to_words, words_to_text
+from sheets.forms import text_to_words, words_to_text
 
 SHEETS = 200
 COORDINATES = [0, 1, -1, 5, -5, 99, -99, 100, -100, 12_345, MAX_COORDINATE, -MAX_COORDINATE]

@@ -6,8 +6,8 @@ from checks import ROOT
 from reference import inputs
 from reference.answers import Refused
 from reference.planning import words_of
-from sheets.command import text_to_words
 from sheets.fault import Fault
+from sheets.forms import text_to_words
 
 SPOILED = 1_000
 UNKNOWN = "a line begins with station, spot, cost, forbidden or #"

@@ -2,9 +2,13 @@
 
 
 class Fault(Exception):
-    """Raised at the first fault. The place is a line of the text or a word of the sheet, the reason plain words."""
+    """Raised at the first fault. The place is a line of the text, a word of the sheet or a sheet of the season, the reason plain words."""
 
     def __init__(self, place, reason):
         super().__init__(f"{place}: {reason}")
         self.place = place
         self.reason = reason
+
+
+class Failure(Exception):
+    """Raised where a command cannot go on; its text is all that is printed."""

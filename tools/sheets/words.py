@@ -80,13 +80,24 @@ class Reader:
         return payload
 
 
-def read_words(data):
-    """The sheet that a file's bytes hold."""
-    whole, rest = divmod(len(data), WORD_BYTES)
-    if len(data) > WORD_BYTES * MAX_WORDS:
-        raise Fault(f"word {MAX_WORDS}", f"the planner takes {MAX_WORDS:,} words at most (refusal {TOO_LONG})")
+def whole_words(size):
+    """How many words so many bytes are; a fault where the last one is cut off."""
+    whole, rest = divmod(size, WORD_BYTES)
     if rest:
         raise Fault(f"word {whole}", f"only {rest} of its {WORD_BYTES} bytes (refusal {BAD_HEAD})")
+    return whole
+
+
+def too_long():
+    """The fault of a sheet that has more words than the planner takes."""
+    return Fault(f"word {MAX_WORDS}", f"the planner takes {MAX_WORDS:,} words at most (refusal {TOO_LONG})")
+
+
+def read_words(data):
+    """The sheet that a file's bytes hold."""
+    if len(data) > WORD_BYTES * MAX_WORDS:
+        raise too_long()
+    whole = whole_words(len(data))
     reader = Reader(struct.unpack(f"<{whole}I", data))
     places = tuple(read_places(reader, variable) for variable in range(read_head(reader)))
     sizes = sizes_of(places)

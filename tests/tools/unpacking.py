@@ -1,0 +1,135 @@
+"""A season taken apart and packed again, as words and as text; what has no text, what is cut off, and folders that will not do."""
+
+import functools
+import random
+import resource
+import tempfile
+from pathlib import Path
+from unittest import mock
+
+import round_trips
+from checks import called, ran
+from examples import content
+from files import contents
+from packed import season
+from packing import REFUSED
+from reference import fields
+from reference.fields import as_bytes
+from sheets.forms import words_to_text
+
+SHEETS = 60
+# Why there is no text of the sheets that the planner refuses.
+NO_TEXT = {
+    "none": "word 0: the sheet ends where the number of stations is due (refusal 1)",
+    "zeros": "word 0: a word of kind 0 where the number of stations is due, a word of kind 1 (refusal 1)",
+    "head": "word 1: the sheet ends where the number of spots of station 0 is due (refusal 2)",
+    "long": "word 16000: the planner takes 16,000 words at most (refusal 10)",
+}
+
+
+def as_files(sheets):
+    return {f"{number:05}.sheet": sheet for number, sheet in enumerate(sheets, 1)}
+
+
+def check_there_and_back(checks, folder, name, sheets):
+    """Good sheets: taken apart each way, and packed again from the files in the order of their names."""
+    source = season(sheets)
+    texts = {f"{number:05}.txt": words_to_text(sheet) for number, sheet in enumerate(sheets, 1)}
+    for at, (options, files) in enumerate([([], as_files(sheets)), (["--text"], texts)]):
+        made = folder / f"{name}-{at}" / "new"
+        checks.same(f"{name} unpacked {options}", called(["season", "unpack", *options, "-", str(made)], source), (0, b"", ""))
+        checks.same(f"the files of {name} {options}", contents(made), files)
+        checks.same(f"{name} packed again {options}", called(["season", "pack", *map(str, sorted(made.iterdir()))], b""),
+                    (0, source, ""))
+
+
+def check_round_trips(checks, folder):
+    rng = random.Random("seasons there and back")
+    all_sheets = [as_bytes(fields.sheet(*round_trips.random_sheet(rng))) for _ in range(SHEETS)]
+    all_sheets += [as_bytes(fields.sheet(places, entries)) for places, entries in round_trips.limits().values()]
+    check_there_and_back(checks, folder, "random sheets", all_sheets)
+    made = folder / "examples"
+    checks.answers(["season", "unpack", "--text", "examples/three.season", str(made)], b"", b"")
+    checks.answers(["season", "pack", *map(str, sorted(made.iterdir()))], b"", content("three.season"))
+    check_there_and_back(checks, folder, "one sheet", [content("corner.sheet")])
+    checks.same("no sheets unpacked", called(["season", "unpack", "-", str(folder / "none")], b""), (0, b"", ""))
+    checks.same("the files of no sheets", contents(folder / "none"), {})
+
+
+def check_no_text(checks, folder):
+    """Faulty sheets between good ones stay words, which pack again to the same season."""
+    good = content("corner.sheet")
+    sheets = [sheet for refused in REFUSED.values() for sheet in (good, refused)]
+    source, files, said = season(sheets), {}, ""
+    for number, (name, refused) in enumerate(REFUSED.items(), 1):
+        files |= {f"{2 * number - 1:05}.txt": words_to_text(good), f"{2 * number:05}.sheet": refused}
+        said += (f"standard input, sheet {2 * number}, {NO_TEXT[name]}; "
+                 f"it has no text and is in {folder / 'text' / f'{2 * number:05}.sheet'} as words\n")
+    checks.same("faulty sheets as text", called(["season", "unpack", "--text", "-", str(folder / "text")], source), (0, b"", said))
+    checks.same("the files of faulty sheets", contents(folder / "text"), files)
+    checks.same("faulty sheets as words", called(["season", "unpack", "-", str(folder / "words")], source), (0, b"", ""))
+    checks.same("the words of faulty sheets", contents(folder / "words"), as_files(sheets))
+    for made in ("text", "words"):
+        checks.same(f"faulty sheets packed again, {made}",
+                    called(["season", "pack", *map(str, sorted((folder / made).iterdir()))], b""), (0, source, ""))
+
+
+def cut_cases():
+    """What stands behind two whole sheets, and what is said of it."""
+    for count in (1, 2, 3):
+        yield bytes(count), f"only {count} of the 4 bytes of its length"
+    yield as_bytes([1]), "its length is 1 words, but only 0 bytes are behind it"
+    yield as_bytes([3, 1, 2]) + bytes(3), "its length is 3 words, but only 11 bytes are behind it"
+    yield as_bytes([16_001]) + bytes(64_003), "its length is 16,001 words, but only 64,003 bytes are behind it"
+    yield as_bytes([0xFFFFFFFF]) + bytes(200_000), "its length is 4,294,967,295 words, but only 200,000 bytes are behind it"
+
+
+def check_cut(checks, folder):
+    good = [content("corner.sheet"), content("headland.sheet")]
+    for at, (behind, said) in enumerate(cut_cases()):
+        for options, ending in ([], "sheet"), (["--text"], "txt"):
+            made = folder / f"cut-{at}-{ending}"
+            checks.same(f"cut season {at} {options}", called(["season", "unpack", *options, "-", str(made)], season(good) + behind),
+                        (1, b"", f"standard input, sheet 3: {said}\n"))
+            checks.same(f"the files of cut season {at} {options}", list(contents(made)), [f"00001.{ending}", f"00002.{ending}"])
+
+
+def check_folders(checks, folder):
+    taken, file, empty = folder / "taken", folder / "file", folder / "empty"
+    taken.mkdir()
+    empty.mkdir()
+    (taken / "kept").write_bytes(b"kept")
+    file.write_bytes(b"kept")
+    unpack = ["season", "unpack", "examples/three.season"]
+    checks.fails([*unpack, str(taken)], b"", f"{taken}: the folder is not empty")
+    checks.fails([*unpack, str(file)], b"", f"{file}: File exists")
+    checks.same("what stood there", (contents(taken), file.read_bytes()), ({"kept": b"kept"}, b"kept"))
+    checks.answers([*unpack, str(empty)], b"", b"")
+    checks.same("the files of an empty folder", list(contents(empty)), ["00001.sheet", "00002.sheet", "00003.sheet"])
+    checks.fails(["season", "unpack", "nowhere", str(folder / "unmade")], b"", "nowhere: No such file or directory")
+    checks.fails(["season", "unpack", "examples", str(folder / "unmade")], b"", "examples: Is a directory")
+    checks.same("no folder without a season", (folder / "unmade").exists(), False)
+
+
+def check_full(checks, folder):
+    """A file that takes no more bytes is not left behind in part."""
+    made = folder / "full"
+    limited = functools.partial(resource.setrlimit, resource.RLIMIT_FSIZE, (1_000, 1_000))
+    source = season([content("corner.sheet"), bytes(4_000), content("corner.sheet")])
+    checks.same("a file too large", ran(["season", "unpack", "-", str(made)], source, preexec_fn=limited),
+                (1, b"", f"{made / '00002.sheet'}: File too large\n"))
+    checks.same("the files before it", list(contents(made)), ["00001.sheet"])
+
+
+def check_pieces(checks, folder):
+    """Sheets that are read and written in many pieces."""
+    sheets = [content("terraces.sheet"), bytes(40), content("corner.sheet")]
+    with mock.patch("sheets.season.PIECE", 16):
+        checks.same("a season in pieces", called(["season", "unpack", "-", str(folder / "pieces")], season(sheets)), (0, b"", ""))
+    checks.same("the files of a season in pieces", contents(folder / "pieces"), as_files(sheets))
+
+
+def run(checks):
+    with tempfile.TemporaryDirectory() as made:
+        for check in (check_round_trips, check_no_text, check_cut, check_folders, check_full, check_pieces):
+            check(checks, Path(made))
