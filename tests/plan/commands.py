@@ -1,4 +1,4 @@
-"""The README's first command, run as a user runs it."""
+"""The README's commands, run as a user runs them."""
 
 import os
 import subprocess
@@ -6,6 +6,7 @@ from pathlib import Path
 
 ROOT = Path(__file__).resolve().parents[2]
 PLAN = ROOT / "plan"
+SEASON = ROOT / "season"
 EXAMPLES = ROOT / "examples"
 
 
@@ -16,15 +17,15 @@ def planned(arguments, source=b"", command=PLAN, path=None):
     return done.returncode, done.stdout, done.stderr.decode()
 
 
-def planned_to_full(arguments):
+def planned_to_full(arguments, command=PLAN):
     """Exit status and last line of standard error where standard output takes no byte."""
     with open("/dev/full", "wb") as full:
-        done = subprocess.run([PLAN, *arguments], stdout=full, stderr=subprocess.PIPE, cwd=ROOT)
+        done = subprocess.run([command, *arguments], stdout=full, stderr=subprocess.PIPE, cwd=ROOT)
     return done.returncode, done.stderr.decode().splitlines()[-1]
 
 
 def tools_without(*missing):
-    """The commands that plan calls, but for these, as a dictionary of names and files."""
+    """The commands that may be called, but for these, as a dictionary of names and files."""
     path = {name: Path(folder) / name for folder in reversed(os.get_exec_path()) if os.path.isdir(folder)
             for name in os.listdir(folder)}
     return {name: file for name, file in path.items() if name not in missing}

@@ -1,0 +1,59 @@
+"""Where there is no answer: one line that says why, nothing on the standard output, and status 1; and the command's help."""
+
+import os
+import socket
+import tempfile
+from pathlib import Path
+
+from commands import EXAMPLES
+from figured import figured, figured_from, figured_to_full, season_with
+
+UNREADABLE = "season: the season cannot be read\n"
+# Programs in place of the true one, and what is said of each.
+PROGRAMS = {
+    "silent": ("exit 0", "season: the program gave no answer\n"),
+    "failing": ("echo 1 2 3; exit 3", "season: the program ended with status 3\n"),
+    "killed": ("kill -9 $$", "season: the program ended with status 137\n"),
+    "complaining": ("echo 'season: the season cannot be read' >&2", UNREADABLE),
+    "astray": ("echo PLAN", "season: the program's answer is unknown: PLAN\n"),
+}
+
+
+def check_arguments(checks):
+    usage = "season: usage: season FILE, or season - for the standard input; season --help says more\n"
+    for arguments, said in [([], usage), (["-", "-"], usage), (["nowhere.season"], "season: there is no file nowhere.season\n"),
+                            (["examples"], "season: examples is a directory\n")]:
+        checks.same(f"season {' '.join(arguments)}", figured(arguments), (1, b"", said))
+    checks.same("season to a full device", figured_to_full(["examples/three.season"]), (1, "season: the figures cannot be written"))
+    status, printed, said = figured(["--help"])
+    checks.same("season --help", (status, said), (0, ""))
+    for part in (b"usage: season FILE", b"one line of 13 numbers", b"2 to 6    how many were refused under 1, 2, 3, 4 and 5",
+                 b"13        the first sheet", b"tools/sheet season pack", b"The exit status is 0"):
+        checks.same(f"season --help has {part}", part in printed, True)
+
+
+def check_unreadable(checks, folder):
+    """Files that cannot be opened, files whose reads fail, and a standard input that is closed."""
+    path = folder / "socket"
+    with socket.socket(socket.AF_UNIX) as made:
+        made.bind(str(path))
+        checks.same("season of a socket", figured([path]), (1, b"", f"season: cannot read {path}\n"))
+    checks.same("season of a file whose read fails", figured(["/proc/self/mem"]), (1, b"", UNREADABLE))
+    directory = os.open(EXAMPLES, os.O_RDONLY)
+    checks.same("season - of a directory", figured_from(directory), (1, b"", UNREADABLE))
+    os.close(directory)
+    checks.same("season - where that is closed", figured_from(None, preexec_fn=lambda: os.close(0)),
+                (1, b"", "season: the standard input is closed\n"))
+
+
+def check_programs(checks, folder):
+    for name, (text, said) in PROGRAMS.items():
+        command, path = season_with(folder / name, f"#!/bin/sh\n{text}\n")
+        checks.same(f"a {name} program", figured([EXAMPLES / "three.season"], command=command, path=path), (1, b"", said))
+
+
+def run(checks):
+    with tempfile.TemporaryDirectory() as made:
+        check_unreadable(checks, Path(made))
+        check_programs(checks, Path(made))
+    check_arguments(checks)
