@@ -1,15 +1,14 @@
 -- What each way through the code answers: by phase, by ending, by what came to its end.
-use Prim.Native.Nat.{ℕ, zero, suc, _+_, _*_, _-_, _≤_, _<_}
+use Prim.Native.Nat.{ℕ, zero, suc, _≤_, _<_}
 use native.Mathlib.Omega.{arith}
-use mathlib.Core.Path.{_≡_, refl, sym, ap, _∙_}
-use mathlib.Core.Bool.{Bool, true, false, cond, _&&_}
+use mathlib.Core.Path.{_≡_, ap, _∙_}
+use mathlib.Core.Bool.{Bool, true, false}
 use mathlib.Core.List.{List}
 use lib.ListN.{length, take, replicate}
-use lib.Dec.{eqb, ltb, leb}
-use borrow.Author.Tests.{eq-eqb, ne-eqb, lt-ltb, le-ltb, le-leb, lt-leb}
+use lib.Dec.{ltb}
+use borrow.Author.Tests.{ne-eqb, lt-ltb, le-ltb, le-leb, lt-leb}
 use Rattle.planning.specs.declared.Ending.{Ending}
-use Rattle.planning.specs.declared.Solved.{Solved}
-use Rattle.planning.specs.Solving.{refusedSolved, solvedOf}
+use Rattle.planning.specs.Solving.{solvedOf}
 use Rattle.cutting.specs.declared.Phase.{Phase}
 use Rattle.cutting.specs.declared.Found.{Found}
 use Rattle.cutting.specs.Cutting.{takesByte}

@@ -1,30 +1,22 @@
 -- What sheets come to: each has one of the columns, and a planned one its least cost, which no sum of costs passes.
 use Prim.Native.Nat.{ℕ, _≤_, _<_}
 use native.Mathlib.Omega.{arith}
-use mathlib.Core.Path.{_≡_, refl, sym, ap, _∙_}
-use mathlib.Core.Bool.{Bool, true, false, cond}
+use mathlib.Core.Path.{_≡_}
 use mathlib.Core.List.{List}
-use lib.ListN.{take, length}
-use lib.Dec.{eqb, leb}
-use borrow.Author.Tests.{eq-eqb, ne-eqb, eqb-true, eqb-false, le-leb, lt-leb}
-use Rattle.wcsp.specs.Entry.{LeastCost}
+use borrow.Author.Tests.{le-leb}
 use Rattle.fields.specs.Limits.{greatestCost}
 use Rattle.fields.proofs.Costs.{entries-costs}
-use Rattle.input.specs.Instance.{sizesOf, entriesOf}
 use Rattle.input.proofs.Acceptance.{faultlessIsAccepted}
 use Rattle.making.specs.Made.{madeWords}
 use Rattle.making.proofs.Reading.{made-accepted}
 use Rattle.littleendian.specs.Words.{wordsIn}
-use Rattle.planning.specs.declared.Ending.{Ending}
 use Rattle.planning.specs.declared.Solved.{Solved}
 use Rattle.planning.specs.Solving.{refusedSolved, solvedOf}
 use Rattle.planning.specs.Theorems.{SheetMeans, faulty, longInstance, manyRows, planned, paused, full, Means, tooLong, noWords, ofWords}
 use Rattle.planning.proofs.Meaning.{solvedMeans}
 use Rattle.figures.specs.declared.Figures.{Figures}
 use Rattle.figures.specs.Counting.{columnCount, plannedColumn, counted}
-use Rattle.figures.specs.Tallies.{isPlanned}
-use Rattle.figures.specs.Theorems.{InColumn}
-use Rattle.batch.specs.Season.{Sheet, cutOff, passedOver, whole, solvedSheet, refusalColumn, columnOf, figureOf, figureOfSheet}
+use Rattle.batch.specs.Season.{Sheet, cutOff, passedOver, whole, solvedSheet, refusalColumn, columnOf}
 use Rattle.batch.specs.Feeding.{countedSheet}
 
 -- ---- refusals

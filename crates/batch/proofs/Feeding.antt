@@ -2,8 +2,8 @@
 use Prim.Native.Nat.{ℕ, _+_, _-_, _*_, _≤_}
 use native.Mathlib.Omega.{arith}
 use mathlib.Core.Path.{_≡_, refl, sym, ap, _∙_}
-use mathlib.Core.Bool.{Bool, true, false, cond, _&&_}
-use mathlib.Core.List.{List, [], _∷_, _++_}
+use mathlib.Core.Bool.{true, false}
+use mathlib.Core.List.{List, [], _∷_}
 use lib.ListN.{length, take, drop, length-drop, drop-of-length-le}
 use lib.Seq.{take-all, drop-drop, length-take-le}
 use lib.Dec.{leb}
@@ -14,7 +14,7 @@ use Rattle.cutting.specs.declared.Found.{Found}
 use Rattle.cutting.specs.Cutting.{Cut, byteCut, takesByte, longestSheet}
 use Rattle.cutting.specs.declared.Taken.{Taken}
 use Rattle.cutting.specs.Pieces.{Part, goingOn, cutTo, endOf, CutsTo}
-use Rattle.cutting.proofs.Pieces.{body-length, still-takes, fits-buffer}
+use Rattle.cutting.proofs.Turns.{byte-leaves}
 use Rattle.figures.specs.declared.Figures.{Figures}
 use Rattle.figures.specs.Counting.{takesSheet}
 use Rattle.batch.specs.declared.Season.{Season}
@@ -38,13 +38,13 @@ pub fed-byte : (f : LentSeason) (x : ℕ) (xs : List ℕ) → seasonTakes (f .se
 unfolding fed fedByte
 fed-byte f x xs e = rw e
 
--- a byte that brings nothing to its end leaves a phase that takes more
-pub still-takes-byte : (phase : Phase) (body : List ℕ) (b : ℕ) → takesByte phase (length body) ≡ true → byteCut phase body b .found ≡ Found.Nothing
+-- a byte that is taken leaves a phase that takes more, in a buffer as long
+pub still-takes-byte : (phase : Phase) (body : List ℕ) (b : ℕ) → takesByte phase (length body) ≡ true
     → takesByte (byteCut phase body b .phase) (length (byteCut phase body b .body)) ≡ true
-still-takes-byte phase body b e quiet =
+still-takes-byte phase body b e =
     let room = and-left (leb (4 * longestSheet) (length body)) _ e in
-    let takes = and-right (leb (4 * longestSheet) (length body)) _ e in
-    rw (body-length phase body b, room) (still-takes phase body b takes quiet)
+    let left = byte-leaves phase body b (and-right (leb (4 * longestSheet) (length body)) _ e) in
+    rw (left .long, room) (left .takes)
 
 -- ---- up to the first that brings something to its end
 
@@ -73,7 +73,7 @@ fed-part figures phase body [] e t = refl
 fed-part figures phase body (x ∷ xs) e t =
     fed-byte (at figures phase body) x xs (rw (e, t))
     ∙ part-on figures (byteCut phase body x) xs _ _ (byteCut phase body x .found) refl refl
-    (λ quiet. fed-part figures (byteCut phase body x .phase) (byteCut phase body x .body) xs (still-takes-byte phase body x e quiet) t)
+    (λ quiet. fed-part figures (byteCut phase body x .phase) (byteCut phase body x .body) xs (still-takes-byte phase body x e) t)
 
 -- a sheet that came to its end fits the buffer, which stays as long as it was
 record Fits (room : ℕ) (p : Part) : Type 0 where
@@ -93,10 +93,10 @@ part-fits phase body [] e = record { sheet = omega arith; long = refl }
 part-fits phase body (x ∷ xs) e =
     let c = byteCut phase body x in
     let room = leb-true (4 * longestSheet) (length body) (and-left (leb (4 * longestSheet) (length body)) _ e) in
-    let fits = fits-buffer phase body x (and-right (leb (4 * longestSheet) (length body)) _ e) in
+    let left = byte-leaves phase body x (and-right (leb (4 * longestSheet) (length body)) _ e) in
     fits-on (length body) (c .found) _ _
-    (λ quiet. rw (body-length phase body x) at (part-fits (c .phase) (c .body) xs (still-takes-byte phase body x e quiet)))
-    (record { sheet = omega (arith, room, fits); long = body-length phase body x })
+    (λ quiet. rw (left .long) at (part-fits (c .phase) (c .body) xs (still-takes-byte phase body x e)))
+    (record { sheet = omega (arith, room, left .fits); long = left .long })
 
 -- ---- what a cut took, as it was fed
 

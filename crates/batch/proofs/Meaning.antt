@@ -6,18 +6,17 @@ use native.Mathlib.Numerals.{add-one}
 use mathlib.Core.Path.{_≡_, refl, sym, ap, _∙_}
 use mathlib.Core.Bool.{Bool, true, false, cond, _&&_}
 use mathlib.Core.List.{List, [], _∷_, _++_, map, append-nil}
-use lib.ListN.{length, take, drop, set, length-append, length-set}
+use lib.ListN.{length, take, drop, set, length-set}
 use lib.Seq.{append-snoc, take-suc-set, length-take-le}
-use lib.Dec.{eqb, ltb, leb}
-use borrow.Author.Tests.{eq-eqb, ne-eqb, eqb-true, eqb-false, lt-ltb, le-ltb, ltb-true, ltb-false, le-leb, leb-true}
+use lib.Dec.{ltb, leb}
+use borrow.Author.Tests.{ne-eqb, lt-ltb, le-ltb, ltb-true, ltb-false, le-leb}
 use Rattle.wcsp.proofs.Lists.{and-left, and-right}
 use Rattle.littleendian.specs.Words.{wordAt}
 use Rattle.planning.specs.declared.Solved.{Solved}
-use Rattle.planning.specs.Solving.{refusedSolved, solvedOf}
 use Rattle.cutting.specs.declared.Phase.{Phase}
-use Rattle.cutting.specs.declared.Found.{Found}
-use Rattle.cutting.specs.Cutting.{longestSheet, Cut, opened, byteCut, takesByte}
+use Rattle.cutting.specs.Cutting.{longestSheet, Cut, byteCut, takesByte}
 use Rattle.cutting.specs.Cutting as cutting
+use Rattle.cutting.proofs.Turns.{lengthWord, Turn, lengthOn, lengthNone, lengthLong, lengthSheet, bodyOn, bodyEnd, passingOn, passingEnd, turn}
 use Rattle.cutting.proofs.Phases.{length-taken, body-taken, passing-taken, over-taken}
 use Rattle.figures.specs.declared.Figures.{Figures}
 use Rattle.figures.specs.Counting.{columnCount, mostSheets, noFigures, sumOf, sheetsOf, counted, takesSheet}
@@ -25,7 +24,7 @@ use Rattle.fields.specs.Entries.{Each, nilEach, consEach}
 use Rattle.figures.specs.Theorems.{InColumn, countedAll}
 use Rattle.figures.proofs.Counting.{sheets-counted, takes-counted, none-takes}
 use Rattle.figures.proofs.Tallies.{countedOneByOne}
-use Rattle.batch.specs.Season.{Sheet, cutOff, passedOver, whole, sheetsBehind, sheetsIn, solvedSheet, columnOf, figureOf, figureOfSheet}
+use Rattle.batch.specs.Season.{Sheet, cutOff, passedOver, whole, sheetsBehind, sheetsIn, solvedSheet, columnOf, figureOfSheet}
 use Rattle.batch.specs.Feeding.{LentSeason, countedSheet, behindSheet, afterFound, seasonTakes, fed, isCut, finishedFigures}
 use Rattle.batch.specs.Theorems.{newSeason, fedPieces, joinedPieces, FedIsSeason, PiecesAreSeason}
 use Rattle.batch.proofs.Columns.{Countable, sheet-in-column}
@@ -45,6 +44,10 @@ pub record Good (f : Figures) (phase : Phase) (body : List ℕ) (k : ℕ) : Type
   pub sheet : takesSheet f ≡ true
   pub byte : takesByte phase (length body) ≡ true
   pub few : sheetsOf f + suc k ≡ mostSheets
+
+-- the same with a phase that takes a byte
+pub good-on : {f : Figures} {phase next : Phase} {body left : List ℕ} {k : ℕ} → Good f phase body k → takesByte next (length left) ≡ true → Good f next left k
+good-on g t = record { columns = g .columns; sheet = g .sheet; byte = t; few = g .few }
 
 abbrev Ends : List ℕ → Type 0
 Ends xs = (f : Figures) (phase : Phase) (body : List ℕ) (k : ℕ) → Good f phase body k
@@ -170,8 +173,7 @@ module _ (x : ℕ) (xs : List ℕ) (ends : Ends xs) (f : Figures) (body : List �
   -- a phase goes on
   on : (phase next : Phase) (left : List ℕ) (sheets : List Sheet) → Good f phase body k → takesByte next (length left) ≡ true
       → remaining next left k xs ≡ sheets → Told f sheets (at f next left) xs
-  on phase next left sheets g t e =
-      ends f next left k (record { columns = g .columns; sheet = g .sheet; byte = t; few = g .few }) ∙ ap (λ ss. countedAll f (map figureOfSheet ss)) e
+  on phase next left sheets g t e = ends f next left k (good-on g t) ∙ ap (λ ss. countedAll f (map figureOfSheet ss)) e
 
   -- a sheet has come to its end
   done : (phase : Phase) (left : List ℕ) (sheet : Sheet) → Good f phase body k → length left ≡ length body
@@ -179,128 +181,52 @@ module _ (x : ℕ) (xs : List ℕ) (ends : Ends xs) (f : Figures) (body : List �
   unfolding countedAll
   done phase left sheet g long = behind-ends f phase body left (solvedSheet sheet) (sheet-in-column sheet) long k xs g ends
 
-  -- what a length opens
-  opens : (phase : Phase) (left : List ℕ) (words : ℕ) → Good f phase body k → length left ≡ length body
-      → Told f (sheetsBehind words xs (sheetsIn k)) (led f (opened words left)) xs
-  unfolding opened afterFound sheetsBehind remaining solvedSheet cutting.takesIn
-  opens phase left words g long = go (eqb words 0) (ltb longestSheet words) refl refl
-    where
-      room : leb (4 * longestSheet) (length left) ≡ true
-      room = rw long (and-left (leb (4 * longestSheet) (length body)) _ (g .byte))
+  -- the sheets behind a length whose last byte this is
+  behind-length : (n : ℕ) → Good f (Phase.Length n) body k → n + 1 ≡ 4
+      → sheetsBehind (lengthWord body n x) xs (sheetsIn k) ≡ sheetsIn (suc k) (take n body ++ (x ∷ xs))
+  behind-length n g four =
+      let t = length-taken (Phase.Length n) (length body) (g .byte) n refl in
+      let kept : take 4 (set body n x) ++ xs ≡ take n body ++ (x ∷ xs) = rw (← four) (kept-byte body n x xs (omega (arith, t .0, t .1))) in
+      sym (length-whole k (set body n x) xs (rw (length-set body n x) (t .1))) ∙ ap (sheetsIn (suc k)) kept
 
-      some : eqb words 0 ≡ false → 0 < 4 * words
-      some e = omega (arith, eqb-false words 0 e)
-
-      Cased : Cut → Bool → Type 0
-      Cased c b = Told f (cond (ltb (length xs) (4 * words)) (cutOff ∷ []) (cond b passedOver (whole (take (4 * words) xs)) ∷ sheetsIn k (drop (4 * words) xs)))
-          (led f c) xs
-
-      go : (a b : Bool) → eqb words 0 ≡ a → ltb longestSheet words ≡ b
-          → Cased (cond a (record { phase = Phase.Length 0; body = left; found = Found.Sheet 0 })
-          (cond b (record { phase = Phase.Passing (4 * words); body = left; found = Found.Length })
-          (record { phase = Phase.Body 0 (4 * words); body = left; found = Found.Length }))) b
-      go true true e h = absurd (let z = eqb-true words 0 e in let l = ltb-true longestSheet words h in omega (arith, z, l))
-      go true false e h =
-          let z : words ≡ 0 = eqb-true words 0 e in
-          rw (z, le-ltb (length xs) 0 (omega arith)) (done phase left (whole []) g long)
-      go false true e h = on phase (Phase.Passing (4 * words)) left _ g (rw (room, lt-ltb 0 (4 * words) (some e))) refl
-      go false false e h =
-          let few : 4 * words ≤ 4 * longestSheet = omega (arith, ltb-false longestSheet words h) in
-          on phase (Phase.Body 0 (4 * words)) left
-          (cond (ltb (length xs) (4 * words)) (cutOff ∷ []) (whole (take (4 * words) xs) ∷ sheetsIn k (drop (4 * words) xs))) g (rw (room, lt-ltb 0 (4 * words) (some e), le-leb (4 * words) (4 * longestSheet) few))
-          (rw (zero-add (length xs), sub-zero (4 * words)))
-
-  -- one byte, by phase
-  byte-length : (n : ℕ) → Good f (Phase.Length n) body k
-      → Told f (remaining (Phase.Length n) body k (x ∷ xs)) (led f (byteCut (Phase.Length n) body x)) xs
-  unfolding byteCut afterFound remaining cutting.takesIn
-  byte-length n g = go (eqb (n + 1) 4) refl
-    where
-      known : (n < 4) × (4 ≤ length body)
-      known = length-taken (Phase.Length n) (length body) (g .byte) n refl
-
-      room : leb (4 * longestSheet) (length body) ≡ true
-      room = and-left (leb (4 * longestSheet) (length body)) _ (g .byte)
-
-      kept : take (n + 1) (set body n x) ++ xs ≡ take n body ++ (x ∷ xs)
-      kept = kept-byte body n x xs (omega (arith, known .0, known .1))
-
-      go : (b : Bool) → eqb (n + 1) 4 ≡ b
-          → Told f (sheetsIn (suc k) (take n body ++ (x ∷ xs)))
-          (led f (cond b (opened (wordAt (set body n x) 0) (set body n x)) (record { phase = Phase.Length (n + 1); body = set body n x; found = Found.Nothing }))) xs
-      go true e =
-          let four : n + 1 ≡ 4 = eqb-true (n + 1) 4 e in
-          let opened-as : sheetsIn (suc k) (take n body ++ (x ∷ xs)) ≡ sheetsBehind (wordAt (set body n x) 0) xs (sheetsIn k)
-          = ap (sheetsIn (suc k)) (sym kept) ∙ rw four (length-whole k (set body n x) xs (rw (length-set body n x) (known .1))) in
-          rw opened-as (opens (Phase.Length n) (set body n x) (wordAt (set body n x) 0) g (length-set body n x))
-      go false e =
-          on (Phase.Length n) (Phase.Length (n + 1)) (set body n x) _ g
-          (rw (length-set body n x, room, lt-ltb (n + 1) 4 (omega (arith, known .0, eqb-false (n + 1) 4 e))))
-          (ap (sheetsIn (suc k)) kept)
-
-  byte-body : (n end : ℕ) → Good f (Phase.Body n end) body k
-      → Told f (remaining (Phase.Body n end) body k (x ∷ xs)) (led f (byteCut (Phase.Body n end) body x)) xs
-  unfolding byteCut afterFound remaining cutting.takesIn solvedSheet
-  byte-body n end g = go (eqb (n + 1) end) refl
-    where
-      known : (n < end) × (end ≤ length body)
-      known = body-taken (Phase.Body n end) (length body) (g .byte) n end refl
-
-      kept : take (n + 1) (set body n x) ++ take (end - (n + 1)) xs ≡ take n body ++ (x ∷ take (end - (n + 1)) xs)
-      kept = kept-byte body n x (take (end - (n + 1)) xs) (omega (arith, known .0, known .1))
-
-      less : end - n ≡ suc (end - (n + 1))
-      less = omega (arith, known .0)
-
-      Rest : List Sheet
-      Rest = cond (ltb (n + suc (length xs)) end) (cutOff ∷ []) (whole (take n body ++ take (end - n) (x ∷ xs)) ∷ sheetsIn k (drop (end - n) (x ∷ xs)))
-
-      go : (b : Bool) → eqb (n + 1) end ≡ b
-          → Told f Rest
-          (led f (cond b (record { phase = Phase.Length 0; body = set body n x; found = Found.Sheet end })
-          (record { phase = Phase.Body (n + 1) end; body = set body n x; found = Found.Nothing }))) xs
-      go true e =
-          let last : n + 1 ≡ end = eqb-true (n + 1) end e in
-          let one : end - n ≡ 1 = omega (arith, last) in
-          let front : take n body ++ (x ∷ []) ≡ take end (set body n x)
-          = rw (← last, add-one n) (sym (take-suc-set body n x (omega (arith, known .0, known .1)))) in
-          rw (le-ltb (n + suc (length xs)) end (omega (arith, last)), one, front) (done (Phase.Body n end) (set body n x) (whole (take end (set body n x))) g (length-set body n x))
-      go false e =
-          let sum : n + suc (length xs) ≡ n + 1 + length xs = omega arith in
-          on (Phase.Body n end) (Phase.Body (n + 1) end) (set body n x) Rest g
-          (rw e at (still-takes-byte (Phase.Body n end) body x (g .byte) (rw e)))
-          (rw (less, sum, kept))
-
-  byte-passing : (left : ℕ) → Good f (Phase.Passing left) body k
-      → Told f (remaining (Phase.Passing left) body k (x ∷ xs)) (led f (byteCut (Phase.Passing left) body x)) xs
-  unfolding byteCut afterFound remaining cutting.takesIn solvedSheet
-  byte-passing left g = go (eqb left 1) refl
-    where
-      Rest : ℕ → List Sheet
-      Rest l = cond (ltb (suc (length xs)) l) (cutOff ∷ []) (passedOver ∷ sheetsIn k (drop l (x ∷ xs)))
-
-      go : (b : Bool) → eqb left 1 ≡ b
-          → Told f (Rest left)
-          (led f (cond b (record { phase = Phase.Length 0; body = body; found = Found.PassedOver })
-          (record { phase = Phase.Passing (left - 1); body = body; found = Found.Nothing }))) xs
-      go true e =
-          let one : left ≡ 1 = eqb-true left 1 e in
-          rw (one, le-ltb (suc (length xs)) 1 (omega arith)) (done (Phase.Passing left) body passedOver g refl)
-      go false e =
-          let some = passing-taken (Phase.Passing left) (length body) (g .byte) left refl in
-          let more : suc (left - 1) ≡ left = omega (arith, some) in
-          on (Phase.Passing left) (Phase.Passing (left - 1)) body (Rest left) g
-          (rw e at (still-takes-byte (Phase.Passing left) body x (g .byte) (rw e)))
-          (rw (ltb-next (length xs) (left - 1)) at (ap Rest more))
+  byte-ends : (phase : Phase) (c : Cut) → Turn body x phase c → Good f phase body k → takesByte (c .phase) (length (c .body)) ≡ true
+      → Told f (remaining phase body k (x ∷ xs)) (led f c) xs
+  unfolding afterFound remaining solvedSheet sheetsBehind
+  byte-ends _ _ (lengthOn n h) g t =
+      let r = length-taken (Phase.Length n) (length body) (g .byte) n refl in
+      on (Phase.Length n) (Phase.Length (n + 1)) (set body n x) _ g t (ap (sheetsIn (suc k)) (kept-byte body n x xs (omega (arith, r .0, r .1))))
+  byte-ends _ _ (lengthNone n four e) g t =
+      rw (← behind-length n g four, e, le-ltb (length xs) 0 (omega arith)) (done (Phase.Length n) (set body n x) (whole []) g (length-set body n x))
+  byte-ends _ _ (lengthLong n four h) g t =
+      on (Phase.Length n) (Phase.Passing (4 * lengthWord body n x)) (set body n x) _ g t
+      (rw (lt-ltb longestSheet (lengthWord body n x) h) at (behind-length n g four))
+  byte-ends _ _ (lengthSheet n four some few) g t =
+      on (Phase.Length n) (Phase.Body 0 (4 * lengthWord body n x)) (set body n x) (sheetsIn (suc k) (take n body ++ (x ∷ xs))) g t
+      (rw (zero-add (length xs), sub-zero (4 * lengthWord body n x)) (rw (le-ltb longestSheet (lengthWord body n x) few) at (behind-length n g four)))
+  byte-ends _ _ (bodyOn n end h few) g t =
+      let r = body-taken (Phase.Body n end) (length body) (g .byte) n end refl in
+      let less : end - n ≡ suc (end - (n + 1)) = omega (arith, h) in
+      let sum : n + suc (length xs) ≡ n + 1 + length xs = omega arith in
+      on (Phase.Body n end) (Phase.Body (n + 1) end) (set body n x) (remaining (Phase.Body n end) body k (x ∷ xs)) g t
+      (rw (less, sum, kept-byte body n x (take (end - (n + 1)) xs) (omega (arith, r .0, r .1))))
+  byte-ends _ _ (bodyEnd n end last few) g t =
+      let r = body-taken (Phase.Body n end) (length body) (g .byte) n end refl in
+      let one : end - n ≡ 1 = omega (arith, last) in
+      let front : take n body ++ (x ∷ []) ≡ take end (set body n x) = rw (← last, add-one n) (sym (take-suc-set body n x (omega (arith, r .0, r .1)))) in
+      rw (le-ltb (n + suc (length xs)) end (omega (arith, last)), one, front)
+      (done (Phase.Body n end) (set body n x) (whole (take end (set body n x))) g (length-set body n x))
+  byte-ends _ _ (passingOn left h) g t =
+      let more : suc (left - 1) ≡ left = omega (arith, h) in
+      on (Phase.Passing left) (Phase.Passing (left - 1)) body (remaining (Phase.Passing left) body k (x ∷ xs)) g t
+      (rw (ltb-next (length xs) (left - 1)) at (ap (λ l. remaining (Phase.Passing l) body k (x ∷ xs)) more))
+  byte-ends _ _ (passingEnd left one) g t =
+      rw (one, le-ltb (suc (length xs)) 1 (omega arith)) (done (Phase.Passing left) body passedOver g refl)
 
 ends-byte : (x : ℕ) (xs : List ℕ) → Ends xs → Ends (x ∷ xs)
-ends-byte x xs ends f phase body k g = rw (fed-byte (at f phase body) x xs (rw (g .byte, g .sheet))) (go phase g)
-  where
-    go : (phase : Phase) → Good f phase body k → Told f (remaining phase body k (x ∷ xs)) (led f (byteCut phase body x)) xs
-    go (Phase.Length n) g = byte-length x xs ends f body k n g
-    go (Phase.Body n end) g = byte-body x xs ends f body k n end g
-    go (Phase.Passing left) g = byte-passing x xs ends f body k left g
-    go Phase.Over g = absurd (over-taken Phase.Over (length body) (g .byte) refl)
+ends-byte x xs ends f phase body k g =
+    let takes = and-right (leb (4 * longestSheet) (length body)) _ (g .byte) in
+    rw (fed-byte (at f phase body) x xs (rw (g .byte, g .sheet)))
+    (byte-ends x xs ends f body k phase (byteCut phase body x) (turn body x phase takes) g (still-takes-byte phase body x (g .byte)))
 
 ends-all : (xs : List ℕ) → Ends xs
 ends-all [] = ends-here

@@ -1,25 +1,25 @@
 -- What a season's figures tell of its sheets, and that few bytes bring none of them to its end.
-use Prim.Native.Nat.{ℕ, zero, suc, _+_, _*_, _-_, _≤_, _<_}
+use Prim.Native.Nat.{ℕ, zero, suc, _*_, _≤_, _<_}
 use native.Mathlib.Omega.{arith}
-use mathlib.Core.Path.{_≡_, refl, sym, ap, _∙_}
+use mathlib.Core.Path.{_≡_, refl, ap, _∙_}
 use mathlib.Core.Bool.{Bool, true, false, cond}
 use mathlib.Core.List.{List, [], _∷_, map}
-use lib.ListN.{length, take, drop, set, length-map}
-use lib.Dec.{eqb, ltb}
-use borrow.Author.Tests.{eqb-true, ne-eqb}
+use lib.ListN.{length, take, drop, length-map}
+use lib.Dec.{eqb, ltb, leb}
+use borrow.Author.Tests.{eqb-true}
 use Rattle.wcsp.specs.Entry.{LeastCost}
+use Rattle.wcsp.proofs.Lists.{and-left, and-right}
 use Rattle.fields.specs.Limits.{greatestCost}
 use Rattle.fields.specs.Entries.{Each, nilEach, consEach}
 use Rattle.input.specs.Instance.{sizesOf, entriesOf}
 use Rattle.making.specs.Made.{madeWords}
 use Rattle.littleendian.specs.Words.{wordAt, wordsIn}
 use Rattle.planning.specs.declared.Solved.{Solved}
-use Rattle.planning.specs.Solving.{refusedSolved, solvedOf}
+use Rattle.planning.specs.Solving.{solvedOf}
 use Rattle.planning.specs.Theorems.{SheetMeans, faulty, longInstance, manyRows, planned, paused, full, Means, tooLong, noWords, ofWords}
 use Rattle.planning.proofs.Meaning.{solvedMeans}
-use Rattle.cutting.specs.declared.Phase.{Phase}
-use Rattle.cutting.specs.declared.Found.{Found}
-use Rattle.cutting.specs.Cutting.{longestSheet, byteCut, wantedIn}
+use Rattle.cutting.specs.Cutting.{longestSheet, byteCut, takesByte, wantedIn}
+use Rattle.cutting.proofs.Turns.{byte-leaves}
 use Rattle.figures.specs.Counting.{plannedColumn, mostSheets}
 use Rattle.figures.specs.Tallies.{isPlanned, costsOf}
 use Rattle.figures.proofs.Tallies.{countsAddUp}
@@ -117,15 +117,6 @@ seasonMeans file =
 
 -- ---- few bytes
 
--- a byte that is not the last of its phase brings nothing to its end
-quiet : (phase : Phase) (body : List ℕ) (b : ℕ) → 1 < wantedIn phase
-    → (byteCut phase body b .found ≡ Found.Nothing) × (wantedIn (byteCut phase body b .phase) + 1 ≡ wantedIn phase)
-unfolding byteCut wantedIn
-quiet (Phase.Length n) body b h = rw (ne-eqb (n + 1) 4 (λ (e : n + 1 ≡ 4). omega (arith, h, e))) (refl, omega (arith, h))
-quiet (Phase.Body n end) body b h = rw (ne-eqb (n + 1) end (λ (e : n + 1 ≡ end). omega (arith, h, e))) (refl, omega (arith, h))
-quiet (Phase.Passing left) body b h = rw (ne-eqb left 1 (λ (e : left ≡ 1). omega (arith, h, e))) (refl, omega (arith, h))
-quiet Phase.Over body b h = absurd (omega (arith, h))
-
 pub nothingBehind : NothingBehind
 unfolding fed afterFound
 nothingBehind f [] h = refl
@@ -136,7 +127,8 @@ nothingBehind f (x ∷ xs) h = go (seasonTakes (f .season) (length (f .body))) r
         → fed f (x ∷ xs) .season .figures ≡ f .season .figures
     go true e ih =
         let c = byteCut (f .season .phase) (f .body) x in
-        let q = quiet (f .season .phase) (f .body) x (omega (arith, h)) in
+        let t = and-right (leb (4 * longestSheet) (length (f .body))) _ (and-left (takesByte (f .season .phase) (length (f .body))) _ e) in
+        let q = byte-leaves (f .season .phase) (f .body) x t .quiet (omega (arith, h)) in
         let step : byteTaken (f .season) (f .body) x ≡ at (f .season .figures) (c .phase) (c .body) = rw (q .0) in
         ap (λ (g : LentSeason). g .season .figures) (fed-byte f x xs e) ∙ ap (λ (g : LentSeason). fed g xs .season .figures) step
         ∙ ih (at (f .season .figures) (c .phase) (c .body)) (omega (arith, h, q .1))

@@ -10,16 +10,13 @@ use Rattle.fields.specs.Entries.{Each}
 use Rattle.littleendian.specs.Words.{wordsIn}
 use Rattle.input.specs.Instance.{sizesOf, entriesOf}
 use Rattle.making.specs.Made.{madeWords}
-use Rattle.planning.specs.declared.Solved.{Solved}
-use Rattle.planning.specs.Theorems.{Means}
 use Rattle.cutting.specs.declared.Phase.{Phase}
 use Rattle.cutting.specs.Cutting.{longestSheet, wantedIn}
 use Rattle.figures.specs.Counting.{mostSheets, sheetsOf}
-use Rattle.figures.specs.Tallies.{isPlanned, costsOf}
+use Rattle.figures.specs.Tallies.{isPlanned}
 use Rattle.figures.specs.Theorems.{InColumn, LargestOf}
-use Rattle.batch.specs.declared.Season.{Season}
 use Rattle.batch.specs.Season.{Sheet, whole, figureOfSheet, seasonSheets, seasonFigures}
-use Rattle.batch.specs.Feeding.{LentSeason, startedSeason, seasonTakes, fed, finishedFigures}
+use Rattle.batch.specs.Feeding.{LentSeason, startedSeason, fed, finishedFigures}
 
 -- ---- bytes in pieces
 

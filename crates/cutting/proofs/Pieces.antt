@@ -1,83 +1,28 @@
--- Bytes that are taken: what one of them leaves, and what a whole piece comes to.
+-- What the bytes of a piece come to, up to the first that brings something to its end.
 use Prim.Native.Nat.{ℕ, zero, suc, _+_, _*_, _-_, _≤_, _<_, min}
 use native.Mathlib.Omega.{arith}
 use native.Mathlib.Nat.{add-zero, sub-zero}
 use mathlib.Core.Path.{_≡_, refl, sym, ap, _∙_}
 use mathlib.Core.Bool.{Bool, true, false, cond}
-use mathlib.Core.List.{List, [], _∷_}
-use lib.ListN.{length, getD, set, drop, length-set, drop-of-length-le}
+use mathlib.Core.List.{List}
+use lib.ListN.{length, getD, set, drop, drop-of-length-le}
 use lib.Seq.{drop-cons, paste, paste-zero, paste-suc}
 use lib.Dec.{eqb, ltb}
-use borrow.Author.Tests.{eq-eqb, ne-eqb, eqb-false, lt-ltb, ltb-true, leb-true}
-use Rattle.wcsp.proofs.Lists.{and-left, and-right}
+use borrow.Author.Tests.{eq-eqb, ne-eqb}
 use Rattle.littleendian.specs.Words.{wordAt}
 use Rattle.cutting.specs.declared.Phase.{Phase}
 use Rattle.cutting.specs.declared.Found.{Found}
 use Rattle.cutting.specs.declared.Taken.{Taken}
-use Rattle.cutting.specs.Cutting.{longestSheet, Cut, opened, byteCut, takesIn}
-use Rattle.cutting.specs.Pieces.{Part, goingOn, cutTo, endOf, CutsTo}
+use Rattle.cutting.specs.Cutting.{longestSheet, Cut, opened, byteCut}
+use Rattle.cutting.specs.Pieces.{Part, goingOn, cutTo, CutsTo}
 
--- ---- one byte
-
--- what a byte leaves: a buffer as long as before, a phase that takes more where nothing came to its end, and a sheet that fits the buffer
-record Leaves (phase : Phase) (body : List ℕ) (c : Cut) : Type 0 where
-  long : length (c .body) ≡ length body
-  goes : takesIn phase ≡ true → c .found ≡ Found.Nothing → takesIn (c .phase) ≡ true
-  fits : takesIn phase ≡ true → endOf (c .found) ≤ 4 * longestSheet
+-- ---- what came to its end
 
 no-length : Found.Length ≡ Found.Nothing → ⊥
 no-length e = let z : _≡_ {A = ℕ} 0 1 = cc in omega arith
 
 no-sheet : (end : ℕ) → Found.Sheet end ≡ Found.Nothing → ⊥
 no-sheet end e = let z : _≡_ {A = ℕ} 0 1 = cc in omega arith
-
-no-passed : Found.PassedOver ≡ Found.Nothing → ⊥
-no-passed e = let z : _≡_ {A = ℕ} 0 1 = cc in omega arith
-
-module _ {phase : Phase} {body : List ℕ} where
-  either : (test : Bool) {x y : Cut} → (test ≡ true → Leaves phase body x) → (test ≡ false → Leaves phase body y) → Leaves phase body (cond test x y)
-  either true f g = f refl
-  either false f g = g refl
-
-  going : {next : Phase} {filled : List ℕ} → length filled ≡ length body → (takesIn phase ≡ true → takesIn next ≡ true)
-      → Leaves phase body (record { phase = next; body = filled; found = Found.Nothing })
-  unfolding endOf
-  going l h = record { long = l; goes = λ t e. h t; fits = λ t. omega arith }
-
-  ending : {next : Phase} {found : Found} {filled : List ℕ} → length filled ≡ length body → (found ≡ Found.Nothing → ⊥)
-      → (takesIn phase ≡ true → endOf found ≤ 4 * longestSheet) → Leaves phase body (record { phase = next; body = filled; found = found })
-  ending l n h = record { long = l; goes = λ t e. absurd (n e); fits = h }
-
-  opening : (words : ℕ) (filled : List ℕ) → length filled ≡ length body → Leaves phase body (opened words filled)
-  unfolding opened endOf
-  opening words filled l =
-      either (eqb words 0) (λ e. ending l (no-sheet 0) (λ t. omega arith)) (λ n.
-      either (ltb longestSheet words) (λ e. ending l no-length (λ t. omega arith)) (λ e. ending l no-length (λ t. omega arith)))
-
-leaves : (phase : Phase) (body : List ℕ) (b : ℕ) → Leaves phase body (byteCut phase body b)
-unfolding byteCut takesIn endOf
-leaves (Phase.Length at) body b =
-    either (eqb (at + 1) 4) (λ e. opening (wordAt (set body at b) 0) (set body at b) (length-set body at b)) (λ n.
-    going (length-set body at b) (λ t. lt-ltb (at + 1) 4 (omega (arith, eqb-false (at + 1) 4 n, ltb-true at 4 t))))
-leaves (Phase.Body at end) body b =
-    either (eqb (at + 1) end) (λ e. ending (length-set body at b) (no-sheet end) (λ t. leb-true end (4 * longestSheet) (and-right (ltb at end) _ t))) (λ n.
-    going (length-set body at b) (λ t.
-    let inside : at + 1 < end = omega (arith, eqb-false (at + 1) end n, ltb-true at end (and-left (ltb at end) _ t)) in
-    rw (lt-ltb (at + 1) end inside) (and-right (ltb at end) _ t)))
-leaves (Phase.Passing left) body b =
-    either (eqb left 1) (λ e. ending refl no-passed (λ t. omega arith)) (λ n.
-    going refl (λ t. lt-ltb 0 (left - 1) (omega (arith, eqb-false left 1 n, ltb-true 0 left t))))
-leaves Phase.Over body b = going refl (λ t. t)
-
-pub body-length : (phase : Phase) (body : List ℕ) (b : ℕ) → length (byteCut phase body b .body) ≡ length body
-body-length phase body b = leaves phase body b .long
-
-pub still-takes : (phase : Phase) (body : List ℕ) (b : ℕ) → takesIn phase ≡ true → byteCut phase body b .found ≡ Found.Nothing
-    → takesIn (byteCut phase body b .phase) ≡ true
-still-takes phase body b = leaves phase body b .goes
-
-pub fits-buffer : (phase : Phase) (body : List ℕ) (b : ℕ) → takesIn phase ≡ true → endOf (byteCut phase body b .found) ≤ 4 * longestSheet
-fits-buffer phase body b = leaves phase body b .fits
 
 -- ---- bytes one after another
 

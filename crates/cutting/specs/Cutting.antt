@@ -1,7 +1,7 @@
 -- A season's bytes taken one by one (document 02, wish 1): the length of a sheet, four bytes as a plain little-endian word; the sheet's bytes, kept in
 -- a buffer; or bytes that are passed over.
-use Prim.Native.Nat.{ℕ, suc, _+_, _*_, _-_}
-use mathlib.Core.Bool.{Bool, true, false, cond, _&&_}
+use Prim.Native.Nat.{ℕ, _+_, _*_, _-_}
+use mathlib.Core.Bool.{Bool, false, cond, _&&_}
 use mathlib.Core.List.{List}
 use lib.ListN.{set}
 use lib.Dec.{eqb, ltb, leb}

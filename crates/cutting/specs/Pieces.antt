@@ -6,7 +6,7 @@ use lib.ListN.{length, drop}
 use Rattle.cutting.specs.declared.Phase.{Phase}
 use Rattle.cutting.specs.declared.Found.{Found}
 use Rattle.cutting.specs.declared.Taken.{Taken}
-use Rattle.cutting.specs.Cutting.{Cut, byteCut}
+use Rattle.cutting.specs.Cutting.{byteCut}
 
 -- what the bytes taken come to, and the bytes that are left
 pub record Part : Type 0 where

@@ -1,7 +1,7 @@
 -- What the largest least cost and its sheet, and the sum, say of the sheets.
-use Prim.Native.Nat.{ℕ, zero, suc, _+_, _*_, _≤_, _<_, max}
+use Prim.Native.Nat.{ℕ, zero, suc, _+_, _*_, _≤_, _<_}
 use native.Mathlib.Omega.{arith}
-use mathlib.Core.Path.{_≡_, refl, sym, ap, _∙_}
+use mathlib.Core.Path.{_≡_, refl, ap, _∙_}
 use mathlib.Core.Bool.{Bool, true, false, cond, _&&_}
 use mathlib.Core.List.{List, [], _∷_, _++_}
 use lib.ListN.{length}
@@ -10,7 +10,7 @@ use borrow.Author.Tests.{eqb-true, eqb-false}
 use Rattle.fields.specs.Limits.{greatestCost}
 use Rattle.fields.specs.Entries.{Each, nilEach, consEach}
 use Rattle.figures.specs.Counting.{sumOf}
-use Rattle.figures.specs.Tallies.{SheetFigure, isPlanned, costsOf, greatest, firstAt, figuresOf}
+use Rattle.figures.specs.Tallies.{SheetFigure, isPlanned, costsOf, greatest, firstAt}
 use Rattle.figures.specs.Theorems.{LargestOf, nonePlanned, hasSheet, LargestIsFirst, SumIsBounded}
 use Rattle.figures.proofs.Tallies.{first-none, costs-append}
 

@@ -7,10 +7,10 @@ use mathlib.Core.List.{List, [], _∷_, _++_, append-nil}
 use lib.ListN.{length, getD, set, length-append}
 use lib.Seq.{append-snoc}
 use lib.Dec.{eqb, ltb}
-use borrow.Author.Tests.{eq-eqb, ne-eqb, eqb-true, eqb-false, lt-ltb, le-ltb, ltb-true, ltb-false}
+use borrow.Author.Tests.{eq-eqb, ne-eqb, eqb-true, eqb-false, ltb-true, ltb-false}
 use Rattle.fields.specs.Entries.{Each, nilEach, consEach}
 use Rattle.figures.specs.declared.Figures.{Figures}
-use Rattle.figures.specs.Counting.{columnCount, plannedColumn, noFigures, sumOf, sheetsOf, leads, counted}
+use Rattle.figures.specs.Counting.{columnCount, noFigures, sumOf, sheetsOf, leads, counted}
 use Rattle.figures.specs.Tallies.{SheetFigure, isPlanned, countIn, countsFrom, costsOf, greatest, firstAt, figuresOf}
 use Rattle.figures.specs.Theorems.{InColumn, countedAll, CountedOneByOne, CountsAddUp}
 use Rattle.figures.proofs.Counting.{sumOf-set}

@@ -1,5 +1,4 @@
 -- `refusal_column` answers by the number: each refusal of a sheet has its column.
-use borrow.Author.Needs.{needs}
 use native.Mathlib.Omega.{arith}
 use Rattle.batch.proofs.Answers.{fault-column, ten-column, twelve-column, no-column-below, no-column-above}
 use Rattle.batch.proofs.refusal_column.Statement.{statement}

@@ -1,6 +1,5 @@
 -- `cut_passing` passes over all of the bytes or as many as are left to pass over.
 use borrow.Author.Needs.{needs}
-use native.Mathlib.Omega.{arith}
 use Rattle.cutting.proofs.Pieces.{passed-on, passed-over}
 use Rattle.cutting.proofs.cut_passing.Statement.{statement}
 use Rattle.cutting.proofs.cut_passing.Tie as tie

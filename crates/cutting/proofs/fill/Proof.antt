@@ -1,9 +1,9 @@
 -- `fill` stores a byte each turn: the buffer is the old one with those stored pasted in.
-use Prim.Native.Nat.{_+_, _-_, _≤_, min}
+use Prim.Native.Nat.{_+_, _-_, _≤_}
 use native.Mathlib.Numerals.{add-one}
 use native.Mathlib.Omega.{arith}
 use mathlib.Core.Path.{_≡_, refl, _∙_}
-use lib.ListN.{length, getD, length-set}
+use lib.ListN.{length, length-set}
 use lib.Seq.{paste, paste-zero, paste-suc}
 use Rattle.cutting.proofs.fill.Statement.{statement}
 use Rattle.cutting.proofs.fill.Tie as tie

@@ -1,5 +1,5 @@
 -- `read_season` keeps its buffers' lengths, and every turn reads at least one of the bytes that a season can have.
-use Prim.Native.Nat.{_≤_, _-_}
+use Prim.Native.Nat.{_-_}
 use mathlib.Core.Path.{_≡_, sym}
 use lib.ListN.{length}
 use lib.Seq.{length-take-le}
