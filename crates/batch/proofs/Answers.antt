@@ -24,25 +24,25 @@ use Rattle.batch.specs.Feeding.{countedSheet, behindSheet, afterFound, s
 -- ---- columns
 
 module _ (k : ℕ) where
-  pub fault-column : 1 ≤ k → k ≤ 5 → k ≡ refusalColumn k
+  pub fault-answers : 1 ≤ k → k ≤ 5 → k ≡ refusalColumn k
   unfolding refusalColumn
-  fault-column low high = rw (le-leb 1 k low, le-leb k 5 high)
+  fault-answers low high = rw (le-leb 1 k low, le-leb k 5 high)
 
-  pub ten-column : k ≡ 10 → 6 ≡ refusalColumn k
+  pub ten-answers : k ≡ 10 → 6 ≡ refusalColumn k
   unfolding refusalColumn
-  ten-column e = rw e
+  ten-answers e = rw e
 
-  pub twelve-column : k ≡ 12 → 7 ≡ refusalColumn k
+  pub twelve-answers : k ≡ 12 → 7 ≡ refusalColumn k
   unfolding refusalColumn
-  twelve-column e = rw e
+  twelve-answers e = rw e
 
-  pub no-column-below : k < 1 → columnCount ≡ refusalColumn k
+  pub below-answers : k < 1 → columnCount ≡ refusalColumn k
   unfolding refusalColumn
-  no-column-below h = rw (lt-leb 1 k h, ne-eqb k 10 (omega (arith, h)), ne-eqb k 12 (omega (arith, h)))
+  below-answers h = rw (lt-leb 1 k h, ne-eqb k 10 (omega (arith, h)), ne-eqb k 12 (omega (arith, h)))
 
-  pub no-column-above : 5 < k → (k ≡ 10 → ⊥) → (k ≡ 12 → ⊥) → columnCount ≡ refusalColumn k
+  pub above-answers : 5 < k → (k ≡ 10 → ⊥) → (k ≡ 12 → ⊥) → columnCount ≡ refusalColumn k
   unfolding refusalColumn
-  no-column-above h n m = rw (le-leb 1 k (omega (arith, h)), lt-leb k 5 h, ne-eqb k 10 n, ne-eqb k 12 m)
+  above-answers h n m = rw (le-leb 1 k (omega (arith, h)), lt-leb k 5 h, ne-eqb k 10 n, ne-eqb k 12 m)
 
 module _ (ending : Ending) where
   pub planned-column : ending ≡ Ending.Planned → plannedColumn ≡ columnOf ending

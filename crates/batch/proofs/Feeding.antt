@@ -4,7 +4,7 @@ use native.Mathlib.Omega.{arith}
 use mathlib.Core.Path.{_≡_, refl, sym, ap, _∙_}
 use mathlib.Core.Bool.{true, false}
 use mathlib.Core.List.{List, [], _∷_}
-use lib.ListN.{length, take, drop, length-drop, drop-of-length-le}
+use lib.ListN.{length, take, drop, length-drop, drop-of-length-le, take-append-drop}
 use lib.Seq.{take-all, drop-drop, length-take-le}
 use lib.Dec.{leb}
 use borrow.Author.Tests.{leb-true}
@@ -133,3 +133,12 @@ fed-all f g bytes from inv h = sym (rw (drop-of-length-le bytes h) at inv)
 
 pub fed-stopped : (f g : LentSeason) (bytes : List ℕ) (from : ℕ) → fed f bytes ≡ fed g (drop from bytes) → seasonTakes (g .season) (length (g .body)) ≡ false → g ≡ fed f bytes
 fed-stopped f g bytes from inv e = sym (inv ∙ fed-none g (drop from bytes) e)
+
+-- a piece that is fed, and the bytes behind it
+pub fed-piece : (f g h : LentSeason) (bytes : List ℕ) (from end : ℕ) → fed f bytes ≡ fed g (drop from bytes) → from ≤ end
+    → h ≡ fed g (take (end - from) (drop from bytes)) → fed f bytes ≡ fed h (drop end bytes)
+fed-piece f g h bytes from end inv l e =
+    let last : from + (end - from) ≡ end = omega (arith, l) in
+    inv ∙ ap (fed g) (sym (take-append-drop (end - from) (drop from bytes)))
+    ∙ fedInPieces g (take (end - from) (drop from bytes)) (drop (end - from) (drop from bytes))
+    ∙ rw (← e, drop-drop (end - from) from bytes, last)

@@ -11,7 +11,7 @@ use lib.Dec.{ltb, leb}
 use borrow.Author.Tests.{lt-ltb, le-ltb}
 use Rattle.wcsp.proofs.Lists.{and-right}
 use Rattle.fields.specs.Entries.{Each, nilEach, consEach}
-use Rattle.littleendian.specs.Words.{wordAt}
+use Rattle.littleendian.proofs.Words.{word-of-four}
 use Rattle.planning.specs.declared.Solved.{Solved}
 use Rattle.planning.specs.Solving.{solvedOf, refusedSolved}
 use Rattle.cutting.specs.declared.Phase.{Phase}
@@ -70,14 +70,6 @@ behind-lasts f phase body left s known long (suc k) xs g lasts h =
 
 -- ---- one byte
 
--- four bytes are a word of 32 bits
-four-small : (filled : List ℕ) → 4 ≤ length filled → Bytes (take 4 filled) → wordAt filled 0 ≤ 4294967295
-four-small [] h bs = absurd (omega (arith, h))
-four-small (a ∷ []) h bs = absurd (omega (arith, h))
-four-small (a ∷ (b ∷ [])) h bs = absurd (omega (arith, h))
-four-small (a ∷ (b ∷ (c ∷ []))) h bs = absurd (omega (arith, h))
-four-small (a ∷ (b ∷ (c ∷ (d ∷ rest)))) h (consEach e (consEach f (consEach g (consEach i nilEach)))) = omega (arith, e, f, g, i)
-
 bytes-behind : (bs : List ℕ) (b : ℕ) → Bytes bs → b < 256 → Bytes (bs ++ (b ∷ []))
 bytes-behind [] b nilEach h = consEach h nilEach
 bytes-behind (c ∷ bs) b (consEach e es) h = consEach e (bytes-behind bs b es h)
@@ -96,7 +88,7 @@ module _ (x : ℕ) (xs : List ℕ) (lasts : Lasts xs) (f : Figures) (body : List
   word-small : (n : ℕ) → Good f (Phase.Length n) body k → Bytes (take n body) → x < 256 → n + 1 ≡ 4 → lengthWord body n x ≤ 4294967295
   word-small n g b small four =
       let r = length-taken (Phase.Length n) (length body) (g .byte) n refl in
-      four-small (set body n x) (rw (length-set body n x) (r .1)) (rw four at (begun n g b small))
+      word-of-four (set body n x) (rw (length-set body n x) (r .1)) (rw four at (begun n g b small))
 
   byte-lasts : (phase : Phase) (c : Cut) → Turn body x phase c → Good f phase body k → takesByte (c .phase) (length (c .body)) ≡ true
       → Begun phase body → x < 256 → most k phase ≤ suc (length xs) → Over (led f c) xs

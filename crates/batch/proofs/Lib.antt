@@ -4,4 +4,6 @@ mod Answers
 pub mod Feeding
 pub mod Meaning
 pub mod Telling
+pub mod Wanting
 pub mod Lasting
+pub mod Witness

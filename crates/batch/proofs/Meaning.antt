@@ -22,11 +22,13 @@ use Rattle.figures.specs.declared.Figures.{Figures}
 use Rattle.figures.specs.Counting.{columnCount, mostSheets, noFigures, sumOf, sheetsOf, counted, takesSheet}
 use Rattle.fields.specs.Entries.{Each, nilEach, consEach}
 use Rattle.figures.specs.Theorems.{InColumn, countedAll}
+use Rattle.figures.specs.Line.{figuresLine}
 use Rattle.figures.proofs.Counting.{sheets-counted, takes-counted, none-takes}
 use Rattle.figures.proofs.Tallies.{countedOneByOne}
-use Rattle.batch.specs.Season.{Sheet, cutOff, passedOver, whole, sheetsBehind, sheetsIn, solvedSheet, columnOf, figureOfSheet}
-use Rattle.batch.specs.Feeding.{LentSeason, countedSheet, behindSheet, afterFound, seasonTakes, fed, isCut, finishedFigures}
-use Rattle.batch.specs.Theorems.{newSeason, fedPieces, joinedPieces, FedIsSeason, PiecesAreSeason}
+use Rattle.batch.specs.declared.Season.{Season}
+use Rattle.batch.specs.Season.{Sheet, cutOff, passedOver, whole, sheetsBehind, sheetsIn, solvedSheet, columnOf, figureOfSheet, seasonLine}
+use Rattle.batch.specs.Feeding.{LentSeason, startedSeason, countedSheet, behindSheet, afterFound, seasonTakes, fed, isCut, finishedFigures, finishedLine}
+use Rattle.batch.specs.Theorems.{newSeason, fedPieces, joinedPieces, FedIsSeason, PiecesAreSeason, LineIsSeason, LedBy, ReadAs}
 use Rattle.batch.proofs.Columns.{Countable, sheet-in-column}
 use Rattle.batch.proofs.Feeding.{at, fedInPieces, fed-none, fed-byte, still-takes-byte}
 
@@ -266,3 +268,25 @@ fed-joinedPieces f (xs ∷ pieces) = fed-joinedPieces (fed f xs) pieces ∙ sym 
 
 pub piecesAreSeason : PiecesAreSeason
 piecesAreSeason body pieces room = ap (λ (f : LentSeason). finishedFigures (f .season)) (fed-joinedPieces (newSeason body) pieces) ∙ fedIsSeason body (joinedPieces pieces) room
+
+pub lineIsSeason : LineIsSeason
+lineIsSeason body pieces room = ap figuresLine (piecesAreSeason body pieces room)
+
+-- ---- what reading comes to
+
+pub led-start : (body : List ℕ) (s : Season) → s ≡ startedSeason → LedBy body (record { season = s; body = body })
+unfolding fed
+led-start body s e = record { bytes = []; leads = rw e }
+
+pub led-on : {body : List ℕ} {f : LentSeason} (g : LentSeason) (xs : List ℕ) → LedBy body f → g ≡ fed f xs → LedBy body g
+led-on {body = body} g xs l e =
+    record { bytes = l .bytes ++ xs; leads = fedInPieces (newSeason body) (l .bytes) xs ∙ ap (λ (f : LentSeason). fed f xs) (l .leads) ∙ sym e }
+
+pub line-of : (body left bytes : List ℕ) (s : Season) → 4 * longestSheet ≤ length body → record { season = s; body = left } ≡ fed (newSeason body) bytes
+    → finishedLine s ≡ seasonLine bytes
+line-of body left bytes s room e =
+    ap figuresLine (ap (λ (f : LentSeason). finishedFigures (f .season)) e ∙ fedIsSeason body bytes room)
+
+pub read-as : (body left : List ℕ) (s : Season) → 4 * longestSheet ≤ length body → LedBy body (record { season = s; body = left }) → ReadAs body s
+read-as body left s room l =
+    record { bytes = l .bytes; leads = ap (λ (f : LentSeason). f .season) (l .leads); line = line-of body left (l .bytes) s room (sym (l .leads)) }

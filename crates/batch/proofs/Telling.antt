@@ -1,14 +1,13 @@
--- What a season's figures tell of its sheets, and that few bytes bring none of them to its end.
-use Prim.Native.Nat.{ℕ, zero, suc, _*_, _≤_, _<_}
+-- What a season's figures tell of its sheets.
+use Prim.Native.Nat.{ℕ, zero, suc, _*_, _≤_}
 use native.Mathlib.Omega.{arith}
-use mathlib.Core.Path.{_≡_, refl, ap, _∙_}
+use mathlib.Core.Path.{_≡_, refl, _∙_}
 use mathlib.Core.Bool.{Bool, true, false, cond}
 use mathlib.Core.List.{List, [], _∷_, map}
 use lib.ListN.{length, take, drop, length-map}
-use lib.Dec.{eqb, ltb, leb}
+use lib.Dec.{eqb, ltb}
 use borrow.Author.Tests.{eqb-true}
 use Rattle.wcsp.specs.Entry.{LeastCost}
-use Rattle.wcsp.proofs.Lists.{and-left, and-right}
 use Rattle.fields.specs.Limits.{greatestCost}
 use Rattle.fields.specs.Entries.{Each, nilEach, consEach}
 use Rattle.input.specs.Instance.{sizesOf, entriesOf}
@@ -16,19 +15,16 @@ use Rattle.making.specs.Made.{madeWords}
 use Rattle.littleendian.specs.Words.{wordAt, wordsIn}
 use Rattle.planning.specs.declared.Solved.{Solved}
 use Rattle.planning.specs.Solving.{solvedOf}
-use Rattle.planning.specs.Theorems.{SheetMeans, faulty, longInstance, manyRows, planned, paused, full, Means, tooLong, noWords, ofWords}
+use Rattle.planning.specs.Theorems.{Held, SheetMeans, faulty, longInstance, manyRows, planned, paused, full, Means, tooLong, noWords, ofWords}
 use Rattle.planning.proofs.Meaning.{solvedMeans}
-use Rattle.cutting.specs.Cutting.{longestSheet, byteCut, takesByte, wantedIn}
-use Rattle.cutting.proofs.Turns.{byte-leaves}
+use Rattle.cutting.specs.Cutting.{longestSheet}
 use Rattle.figures.specs.Counting.{plannedColumn, mostSheets}
 use Rattle.figures.specs.Tallies.{isPlanned, costsOf}
 use Rattle.figures.proofs.Tallies.{countsAddUp}
 use Rattle.figures.proofs.Largest.{largestIsFirst, sumIsBounded}
 use Rattle.batch.specs.Season.{Sheet, cutOff, passedOver, whole, sheetsBehind, sheetsIn, solvedSheet, columnOf, figureOfSheet, seasonSheets}
-use Rattle.batch.specs.Feeding.{LentSeason, afterFound, seasonTakes, byteTaken, fed}
-use Rattle.batch.specs.Theorems.{NothingBehind, PlannedAt, SeasonMeans}
+use Rattle.batch.specs.Theorems.{PlannedAt, SeasonMeans}
 use Rattle.batch.proofs.Columns.{OwnColumn, cut-column, long-column, fault-column, many-column, sheet-in-column}
-use Rattle.batch.proofs.Feeding.{at, fed-none, fed-byte}
 use Rattle.batch.proofs.Meaning.{every}
 
 -- ---- the sheets
@@ -54,9 +50,9 @@ sheets-few (suc k) file = go (eqb (length file) 0) (ltb (length file) 4) (sheets
 
 -- ---- what is planned
 
--- a value that is planned has the least cost of its bytes' instance
+-- a value that is planned has the least cost of its bytes' instance, which is accepted
 abbrev LeastOf : List ℕ → ℕ → Type 0
-LeastOf sheet cost = LeastCost (sizesOf (madeWords sheet)) (entriesOf (madeWords sheet)) cost
+LeastOf sheet cost = Held sheet × LeastCost (sizesOf (madeWords sheet)) (entriesOf (madeWords sheet)) cost
 
 not-planned : {A : Type 0} {column : ℕ} → OwnColumn column → eqb column plannedColumn ≡ true → A
 not-planned {column = column} own e = absurd (own .other (eqb-true column plannedColumn e))
@@ -67,7 +63,7 @@ sheet-least sheet _ (faulty k e low high) p = not-planned (fault-column k low hi
 sheet-least sheet _ (longInstance e h) p = not-planned long-column p
 sheet-least sheet _ (manyRows e h m) p = not-planned many-column p
 sheet-least sheet _ (planned plan steps least h b r) p =
-    record { assignment = _; inRange = b .inRange; attained = b .attained; least = b .least }
+    (h, record { assignment = _; inRange = b .inRange; attained = b .attained; least = b .least })
 sheet-least sheet _ (paused steps b h n r) p = absurd (let z = eqb-true 8 plannedColumn p in omega (arith, z))
 sheet-least sheet _ (full steps b h n r) p = absurd (let z = eqb-true 9 plannedColumn p in omega (arith, z))
 
@@ -84,7 +80,7 @@ planned-at : (sheet : Sheet) → isPlanned (figureOfSheet sheet) ≡ true → Pl
 unfolding solvedSheet columnOf
 planned-at cutOff p = not-planned cut-column p
 planned-at passedOver p = not-planned long-column p
-planned-at (whole bytes) p = record { bytes = bytes; sheetHas = refl; least = bytes-least bytes p }
+planned-at (whole bytes) p = let (held, least) = bytes-least bytes p in record { bytes = bytes; sheetHas = refl; held = held; least = least }
 
 every-planned : (sheets : List Sheet) → Each (λ sheet. isPlanned (figureOfSheet sheet) ≡ true → PlannedAt sheet (figureOfSheet sheet .cost)) sheets
 every-planned [] = nilEach
@@ -109,27 +105,10 @@ seasonMeans file =
     record {
       few = few;
       inColumns = every sheets;
+      counts = refl;
       adds = countsAddUp (map figureOfSheet sheets) (every sheets) ∙ long;
+      sums = refl;
       planned = every-planned sheets;
       largest = largestIsFirst (map figureOfSheet sheets);
       bounded = omega (arith, few, long, sum);
     }
-
--- ---- few bytes
-
-pub nothingBehind : NothingBehind
-unfolding fed afterFound
-nothingBehind f [] h = refl
-nothingBehind f (x ∷ xs) h = go (seasonTakes (f .season) (length (f .body))) refl (λ g l. nothingBehind g xs l)
-  where
-    go : (t : Bool) → seasonTakes (f .season) (length (f .body)) ≡ t
-        → ((g : LentSeason) → length xs < wantedIn (g .season .phase) → fed g xs .season .figures ≡ g .season .figures)
-        → fed f (x ∷ xs) .season .figures ≡ f .season .figures
-    go true e ih =
-        let c = byteCut (f .season .phase) (f .body) x in
-        let t = and-right (leb (4 * longestSheet) (length (f .body))) _ (and-left (takesByte (f .season .phase) (length (f .body))) _ e) in
-        let q = byte-leaves (f .season .phase) (f .body) x t .quiet (omega (arith, h)) in
-        let step : byteTaken (f .season) (f .body) x ≡ at (f .season .figures) (c .phase) (c .body) = rw (q .0) in
-        ap (λ (g : LentSeason). g .season .figures) (fed-byte f x xs e) ∙ ap (λ (g : LentSeason). fed g xs .season .figures) step
-        ∙ ih (at (f .season .figures) (c .phase) (c .body)) (omega (arith, h, q .1))
-    go false e ih = ap (λ (g : LentSeason). g .season .figures) (fed-none f (x ∷ xs) e)

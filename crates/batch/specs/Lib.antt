@@ -2,3 +2,4 @@
 pub mod Season
 pub mod Feeding
 pub mod Theorems
+pub mod Witness

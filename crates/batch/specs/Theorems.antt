@@ -10,13 +10,15 @@ use Rattle.fields.specs.Entries.{Each}
 use Rattle.littleendian.specs.Words.{wordsIn}
 use Rattle.input.specs.Instance.{sizesOf, entriesOf}
 use Rattle.making.specs.Made.{madeWords}
+use Rattle.planning.specs.Theorems.{Held}
 use Rattle.cutting.specs.declared.Phase.{Phase}
 use Rattle.cutting.specs.Cutting.{longestSheet, wantedIn}
-use Rattle.figures.specs.Counting.{mostSheets, sheetsOf}
-use Rattle.figures.specs.Tallies.{isPlanned}
+use Rattle.figures.specs.Counting.{columnCount, mostSheets, sumOf, sheetsOf}
+use Rattle.figures.specs.Tallies.{isPlanned, countsFrom, costsOf}
 use Rattle.figures.specs.Theorems.{InColumn, LargestOf}
-use Rattle.batch.specs.Season.{Sheet, whole, figureOfSheet, seasonSheets, seasonFigures}
-use Rattle.batch.specs.Feeding.{LentSeason, startedSeason, fed, finishedFigures}
+use Rattle.batch.specs.Season.{Sheet, whole, figureOfSheet, seasonSheets, seasonFigures, seasonLine}
+use Rattle.batch.specs.declared.Season.{Season}
+use Rattle.batch.specs.Feeding.{LentSeason, startedSeason, seasonTakes, fed, finishedFigures, finishedLine}
 
 -- ---- bytes in pieces
 
@@ -46,9 +48,29 @@ abbrev pub PiecesAreSeason : Type 0
 PiecesAreSeason = (body : List ℕ) (pieces : List (List ℕ)) → 4 * longestSheet ≤ length body
     → finishedFigures (fedPieces (newSeason body) pieces .season) ≡ seasonFigures (joinedPieces pieces)
 
--- fewer bytes than a phase wants bring no sheet to its end, so a reader that asks for no more reads nothing behind the last sheet
+-- and so is the line
+abbrev pub LineIsSeason : Type 0
+LineIsSeason = (body : List ℕ) (pieces : List (List ℕ)) → 4 * longestSheet ≤ length body
+    → finishedLine (fedPieces (newSeason body) pieces .season) ≡ seasonLine (joinedPieces pieces)
+
+-- a season and its buffer as some bytes leave them, and so what reading these bytes comes to: the line that they have
+pub record LedBy (body : List ℕ) (f : LentSeason) : Type 0 where
+  pub bytes : List ℕ
+  pub leads : fed (newSeason body) bytes ≡ f
+
+pub record ReadAs (body : List ℕ) (s : Season) : Type 0 where
+  pub bytes : List ℕ
+  pub leads : fed (newSeason body) bytes .season ≡ s
+  pub line : finishedLine s ≡ seasonLine bytes
+
+-- a season that takes bytes wants some
+abbrev pub TakesAndWants : Type 0
+TakesAndWants = (s : Season) (room : ℕ) → seasonTakes s room ≡ true → 1 ≤ wantedIn (s .phase)
+
+-- fewer bytes than it wants bring no sheet to its end and leave it taking more, so a reader that asks for no more reads nothing behind the last sheet
 abbrev pub NothingBehind : Type 0
-NothingBehind = (f : LentSeason) (xs : List ℕ) → length xs < wantedIn (f .season .phase) → fed f xs .season .figures ≡ f .season .figures
+NothingBehind = (f : LentSeason) (xs : List ℕ) → seasonTakes (f .season) (length (f .body)) ≡ true → length xs < wantedIn (f .season .phase)
+    → (fed f xs .season .figures ≡ f .season .figures) × (seasonTakes (fed f xs .season) (length (fed f xs .body)) ≡ true)
 
 -- the most bytes of a sheet: four of its length, and 4,294,967,295 words
 abbrev pub mostSheetBytes : ℕ
@@ -61,19 +83,22 @@ SeasonEnds = (body file : List ℕ) → 4 * longestSheet ≤ length body → Eac
 
 -- ---- the figures
 
--- a planned sheet has its bytes, and its cost is the least of the instance made from them
+-- a planned sheet has its bytes, whose words are accepted, and its cost is the least of the instance made from them
 pub record PlannedAt (sheet : Sheet) (cost : ℕ) : Type 0 where
   pub bytes : List ℕ
   pub sheetHas : sheet ≡ whole bytes
+  pub held : Held (wordsIn bytes)
   pub least : LeastCost (sizesOf (madeWords (wordsIn bytes))) (entriesOf (madeWords (wordsIn bytes))) cost
 
 pub record SeasonTells (file : List ℕ) : Type 0 where
   -- at most 10,000 sheets
   pub few : length (seasonSheets file) ≤ mostSheets
-  -- every sheet has one of the columns, and the counts add up to the sheets
+  -- every sheet has one of the columns; each column has the number of its sheets; and the counts add up to the sheets
   pub inColumns : Each InColumn (map figureOfSheet (seasonSheets file))
+  pub counts : seasonFigures file .counts ≡ countsFrom 0 columnCount (map figureOfSheet (seasonSheets file))
   pub adds : sheetsOf (seasonFigures file) ≡ length (seasonSheets file)
-  -- each planned sheet's cost, as it is added to the sum, is the least of its own instance
+  -- the sum is that of the planned sheets' costs, each the least of its own instance
+  pub sums : seasonFigures file .sum ≡ sumOf (costsOf (map figureOfSheet (seasonSheets file)))
   pub planned : Each (λ sheet. isPlanned (figureOfSheet sheet) ≡ true → PlannedAt sheet (figureOfSheet sheet .cost)) (seasonSheets file)
   -- the largest and its sheet
   pub largest : LargestOf (map figureOfSheet (seasonSheets file)) (seasonFigures file .largest) (seasonFigures file .first)

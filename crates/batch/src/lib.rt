@@ -27,10 +27,16 @@ pub struct Line {
     pub length: usize,
 }
 
-// The columns of what is refused under 1 and under 10.
+// The columns of what is refused under 1, 10 and 12, of what is paused and of what is full.
 const CUT_OFF: usize = 1;
 
 const TOO_LONG: usize = 6;
+
+const TOO_MANY: usize = 7;
+
+const PAUSED: usize = 8;
+
+const FULL: usize = 9;
 
 // A season of which nothing is read.
 pub fn start() -> Season
@@ -42,13 +48,14 @@ pub fn start() -> Season
     }
 }
 
+// The column of a refusal: 1 to 5 have their own number.
 fn refusal_column(k: u32) -> usize
     ensures { λ r. ⌜ r ≡ refusalColumn k ⌝ }
 {
     match k {
         1..=5 => k as usize,
         10 => TOO_LONG,
-        12 => 7,
+        12 => TOO_MANY,
         _ => figures::COLUMNS,
     }
 }
@@ -60,8 +67,8 @@ fn column(ending: Ending) -> usize
     match ending {
         Ending::Planned => figures::PLANNED,
         Ending::Refused(k) => refusal_column(k),
-        Ending::Paused => 8,
-        Ending::Full => 9,
+        Ending::Paused => PAUSED,
+        Ending::Full => FULL,
     }
 }
 
@@ -85,7 +92,7 @@ fn count(figures: Figures, column: usize, cost: u64) -> Season
 }
 
 // A sheet's bytes planned and counted.
-fn count_planned(figures: Figures, bytes: &[u8]) -> Season
+fn count_sheet(figures: Figures, bytes: &[u8]) -> Season
     requires { ⌜ takesSheet figures ≡ true ⌝ }
     ensures { λ r. ⌜ r ≡ behindSheet (countedSheet figures (solvedOf (now (bytes .entry)))) ⌝ }
 {
@@ -104,11 +111,12 @@ fn after(figures: Figures, phase: Phase, found: Found, body: &[u8]) -> Season
     match found {
         Found::Nothing => Season { phase, figures },
         Found::Length => Season { phase, figures },
-        Found::Sheet(end) => count_planned(figures, &body[..end]),
+        Found::Sheet(end) => count_sheet(figures, &body[..end]),
         Found::PassedOver => count(figures, TOO_LONG, 0),
     }
 }
 
+// Whether a season takes a byte, with a buffer of such a length.
 fn takes(season: Season, room: usize) -> bool
     ensures { λ r. ⌜ r ≡ seasonTakes season room ⌝ }
 {
@@ -116,7 +124,8 @@ fn takes(season: Season, room: usize) -> bool
     cutting::takes(phase, room) && figures::takes(season.figures)
 }
 
-// Bytes taken as they come: they lead where the same bytes in other pieces do. A season that no bytes led to stays as it is.
+// Bytes taken as they come: they lead where the same bytes in other pieces do. A season that is over stays as it is, and so does one that no bytes led
+// to, or whose buffer is too short.
 pub fn feed(season: Season, body: &mut [u8], bytes: &[u8]) -> Season
     ensures returned { λ r. ⌜ record { season = r; body = now (body .exit) } ≡ fed (record { season = season; body = now (body .entry) }) (now (bytes .entry)) ⌝ }
 {
@@ -145,6 +154,7 @@ pub fn wanted(season: Season, most: usize) -> usize
     cutting::wanted(phase, most)
 }
 
+// Whether a length or a sheet has begun and not come to its end.
 fn is_cut(phase: Phase) -> bool
     ensures { λ r. ⌜ r ≡ isCut phase ⌝ }
 {

@@ -91,7 +91,7 @@ fn fill(body: &mut [u8], at: usize, end: usize, bytes: &[u8]) -> usize
     n
 }
 
-// What a length of so many words opens, its last byte being the last of so many.
+// What a length of so many words opens, with how many bytes were taken to its end.
 fn open(words: u32, count: usize) -> Taken
     ensures { λ r. ⌜ ((body : List ℕ) → record { phase = r .phase; body = body; found = r .found } ≡ opened words body) × (r .count ≡ count) ⌝ }
 {

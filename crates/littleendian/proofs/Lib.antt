@@ -1,2 +1,2 @@
 -- The laws of bytes that are read.
-mod Words
+pub mod Words

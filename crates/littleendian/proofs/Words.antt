@@ -6,6 +6,7 @@ use mathlib.Core.Path.{_≡_, refl, sym, ap, _∙_}
 use mathlib.Core.List.{List, [], _∷_, _++_, append-nil}
 use lib.ListN.{length, set, take, drop, length-drop}
 use lib.Seq.{drop-cons, drop-drop, drop-set-lt, take-suc-set, append-snoc}
+use Rattle.fields.specs.Entries.{Each, nilEach, consEach}
 use Rattle.littleendian.specs.Words.{wordsIn, wordAt}
 
 -- fewer than four bytes are no word
@@ -54,3 +55,11 @@ module _ (bytes words : List ℕ) (i : ℕ) (inv : take i words ++ wordsIn (drop
 pub rest-kept : (words words₀ : List ℕ) (i w : ℕ) → drop i words ≡ drop i words₀ → drop (i + 1) (set words i w) ≡ drop (i + 1) words₀
 rest-kept words words₀ i w e =
     drop-set-lt (i + 1) words i w (omega arith) ∙ sym (drop-drop 1 i words) ∙ ap (drop 1) e ∙ drop-drop 1 i words₀
+
+-- four bytes are a word of 32 bits
+pub word-of-four : (filled : List ℕ) → 4 ≤ length filled → Each (λ b. b < 256) (take 4 filled) → wordAt filled 0 ≤ 4294967295
+word-of-four [] h bs = absurd (omega (arith, h))
+word-of-four (a ∷ []) h bs = absurd (omega (arith, h))
+word-of-four (a ∷ (b ∷ [])) h bs = absurd (omega (arith, h))
+word-of-four (a ∷ (b ∷ (c ∷ []))) h bs = absurd (omega (arith, h))
+word-of-four (a ∷ (b ∷ (c ∷ (d ∷ rest)))) h (consEach e (consEach f (consEach g (consEach i nilEach)))) = omega (arith, e, f, g, i)

@@ -6,8 +6,8 @@ use Rattle.batch.proofs.Answers.{after-nothing, after-length, after-she
 use Rattle.batch.proofs.after.Statement.{statement}
 use Rattle.batch.proofs.after.Tie as tie
 
-slice-aggregate-count-planned : tie.Need-slice-aggregate-count-planned
-slice-aggregate-count-planned c =
+slice-aggregate-count-sheet : tie.Need-slice-aggregate-count-sheet
+slice-aggregate-count-sheet c =
     let b = c .before .before .before .before .before in
     sym (length-take-le _ _ (sheet-end _ _ _ (c .before .before .found .given .1) (b .pre .1)))
 
@@ -18,7 +18,7 @@ returns-2 : tie.Need-returns-2
 returns-2 c = after-length _ _ _ _ (c .enum-told2 .given .1)
 
 returns-3 : tie.Need-returns-3
-returns-3 c = after-sheet _ _ _ _ _ _ (c .before .before .before .found .given .1) (c .count-planned .ensures)
+returns-3 c = after-sheet _ _ _ _ _ _ (c .before .before .before .found .given .1) (c .count-sheet .ensures)
 
 returns-4 : tie.Need-returns-4
 returns-4 c = after-passed _ _ _ _ _ (c .before .enum-told3 .given .1) (c .count .ensures)
@@ -30,7 +30,7 @@ after-spec =
     (λ c. search needs)
     (λ c. search needs)
     (λ c. search needs)
-    slice-aggregate-count-planned
+    slice-aggregate-count-sheet
     (λ c κs. search needs)
     (λ c. search needs)
     (λ c κs. search needs)

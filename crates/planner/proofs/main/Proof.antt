@@ -1,4 +1,4 @@
--- `main` lends so many bytes as `read_input` has read, and so many of the text as `plan_text` says: in each case no more than there are.
+-- `main` lends so many bytes as `read_all` has read, and so many of the text as `plan_text` says: in each case no more than there are.
 use mathlib.Core.Path.{sym}
 use lib.Seq.{length-take-le}
 use borrow.Author.Needs.{needs}
@@ -6,7 +6,7 @@ use Rattle.planner.proofs.main.Statement.{statement}
 use Rattle.planner.proofs.main.Tie as tie
 
 slice-aggregate-plan-text : tie.Need-slice-aggregate-plan-text
-slice-aggregate-plan-text c = sym (length-take-le _ _ (c .before .before .before .read-input .ensures))
+slice-aggregate-plan-text c = sym (length-take-le _ _ (c .before .before .before .read-all .ensures))
 
 slice-aggregate-write-all-2 : tie.Need-slice-aggregate-write-all-2
 slice-aggregate-write-all-2 c = sym (length-take-le _ _ (c .before .before .plan-text .ensures .1))

@@ -1,11 +1,11 @@
--- `count_planned` counts what the bytes come to: every ending of a sheet has a column, and no least cost is too great.
+-- `count_sheet` counts what the bytes come to: every ending of a sheet has a column, and no least cost is too great.
 use borrow.Author.Needs.{needs}
 use mathlib.Core.Path.{ap, _∙_}
 use denote.Ref.{now}
 use Rattle.batch.specs.Feeding.{behindSheet}
 use Rattle.batch.proofs.Columns.{bytes-countable, bytes-counted}
-use Rattle.batch.proofs.count_planned.Statement.{statement}
-use Rattle.batch.proofs.count_planned.Tie as tie
+use Rattle.batch.proofs.count_sheet.Statement.{statement}
+use Rattle.batch.proofs.count_sheet.Tie as tie
 
 count-requires : tie.Need-count-requires
 count-requires c κs =
@@ -19,5 +19,5 @@ returns c =
     c .count .ensures
     ∙ ap behindSheet (bytes-counted (now (b .args .bytes)) _ _ (c .before .before .solve .ensures) (c .before .column .ensures) (b .args .figures))
 
-pub count-planned-spec : {M : Type 1} → statement M
-count-planned-spec = tie.close (tie.spec (λ c κs. search needs) (λ c κs. search needs) count-requires returns)
+pub count-sheet-spec : {M : Type 1} → statement M
+count-sheet-spec = tie.close (tie.spec (λ c κs. search needs) (λ c κs. search needs) count-requires returns)
