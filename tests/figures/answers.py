@@ -6,7 +6,7 @@ from pathlib import Path
 
 from commands import EXAMPLES, SEASON
 from figured import NONE, ONE_REFUSED, THREE, figured, figured_from
-from packed import season
+from reference.fields import season
 from sheets import all_sheets
 
 # A sheet of each outcome, in the order of the numbers.

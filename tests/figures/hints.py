@@ -7,8 +7,8 @@ from pathlib import Path
 
 from commands import EXAMPLES
 from figured import ONE_REFUSED, PATIENCE, figured, figured_from, season_with
-from packed import season
 from reference import fields, words
+from reference.fields import season
 
 NAMES = ["corner", "headland", "terraces"]
 HINT = "season: {} looks like a single sheet; tools/sheet season pack makes a season from sheets\n"

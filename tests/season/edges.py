@@ -7,8 +7,9 @@ import subprocess
 import tempfile
 
 from programs import at_failed_read, at_failed_write, given_one_by_one, shown
-from reference.fields import as_bytes, season, sheet
-from seasons import HERE, NO_WORDS, ONE, PASSED_OVER, length
+from reference.fields import NO_WORDS, as_bytes, length, season, sheet
+from seasons import ONE, PASSED_OVER
+from sheets import HERE
 
 UNREAD = b"season: the season cannot be read\n"
 UNWRITTEN = b"season: the figures cannot be written\n"

@@ -4,24 +4,12 @@ import random
 from itertools import cycle, islice, product
 
 from reference import words
-from reference.fields import as_bytes, season, sheet
-from sheets import EXAMPLE, HERE, all_sheets
+from reference.fields import NO_WORDS, as_bytes, costing, length, season
+from sheets import EXAMPLE, all_sheets
 
 ONE = as_bytes(EXAMPLE)
-NO_WORDS = b""
 # The shortest sheet that is passed over.
 PASSED_OVER = bytes(64_004)
-
-
-def costing(cost):
-    """A sheet of this least cost, of five words."""
-    return as_bytes(sheet([[HERE]], [([], cost)]))
-
-
-def length(words_announced):
-    return as_bytes([words_announced])
-
-
 # Sheets of at most five words: refused under 1, 2 and 3, and planned, with a cost that may come twice.
 TINY = [NO_WORDS, as_bytes([words.head(13)]), as_bytes([words.head(1)]), costing(7)[:-4] + as_bytes([words.size(1)]),
         costing(7)[:-4], costing(7)]

@@ -10,8 +10,8 @@ from checks import called
 from commands import written_to_full
 from examples import NAMES, content
 from files import kept
-from packed import season
 from reference import fields
+from reference.fields import season
 from text_faults import UNKNOWN
 
 SHEETS = 60

@@ -8,10 +8,10 @@ import tempfile
 import round_trips
 from checks import called, ran
 from examples import content
-from packed import season
 from packing import REFUSED
 from reference import fields
 from reference.answers import GOOD
+from reference.fields import length, season
 from refusals import ROOM, crowded
 from sheets.forms import refusal_of_words
 from unpacking import NO_TEXT, cut_cases
@@ -69,7 +69,7 @@ def check_damaged(checks):
 def check_held(checks):
     """A sheet of a gigabyte is passed over in little memory, and the sheet behind it is read."""
     with tempfile.NamedTemporaryFile() as file:
-        file.write((GIGABYTE // 4).to_bytes(4, "little"))
+        file.write(length(GIGABYTE // 4))
         file.seek(GIGABYTE, 1)
         file.write(season([b""]))
         file.flush()

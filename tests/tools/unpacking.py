@@ -11,10 +11,9 @@ import round_trips
 from checks import called, ran
 from examples import content
 from files import contents
-from packed import season
 from packing import REFUSED
 from reference import fields
-from reference.fields import as_bytes
+from reference.fields import as_bytes, season
 from sheets.forms import words_to_text
 
 SHEETS = 60

@@ -4,7 +4,7 @@ import unittest
 from functools import cache, partial
 
 from reference import Buffers, season_line, solved, words
-from reference.fields import as_bytes, season, sheet
+from reference.fields import NO_WORDS, as_bytes, costing, length, season, sheet
 from reference.season import outcomes
 
 from .support import CONSTANT_FIRST, EXAMPLE, GROWING, HERE, LONGEST
@@ -14,16 +14,6 @@ SOLVE = cache(solved)
 # In these GROWING is full after a step, CONSTANT_FIRST is paused after two, and EIGHT_ROWS do not fit.
 SMALL = cache(partial(solved, buffers=Buffers(table=29, limit=2)))
 EIGHT_ROWS = as_bytes(sheet([[HERE] * 8], [([(0, spot)], 1) for spot in range(8)]))
-NO_WORDS = b""
-
-
-def costing(cost):
-    """A sheet of this least cost."""
-    return as_bytes(sheet([[HERE]], [([], cost)]))
-
-
-def length(words_announced):
-    return as_bytes([words_announced])
 
 
 class Lines(unittest.TestCase):

@@ -5,6 +5,8 @@ from .inputs import Entry, Instance, entry_words, instance_words
 from .limits import ROW_WORDS
 from .tables import Row, rows_start, table_words
 
+NO_WORDS = b""      # a sheet of a season
+
 
 def instance(sizes, entries):
     """Entries are (bindings, cost), bindings a list of (variable, value)."""
@@ -55,6 +57,16 @@ def as_bytes(sequence):
     return b"".join(w.to_bytes(4, "little") for w in sequence)
 
 
+def costing(cost):
+    """The bytes of a sheet of this least cost, of five words."""
+    return as_bytes(sheet([[(0, 0)]], [([], cost)]))
+
+
+def length(words_announced):
+    """The bytes before a sheet of a season."""
+    return as_bytes([words_announced])
+
+
 def season(sheets):
     """The bytes of sheets one behind the other, each with its length in words before it; the sheets are bytes."""
-    return b"".join(as_bytes([len(source) // 4]) + source for source in sheets)
+    return b"".join(length(len(source) // 4) + source for source in sheets)
