@@ -1,4 +1,5 @@
-"""A season taken apart and packed again, as words and as text; what has no text, what is cut off, and folders that will not do."""
+"""A season taken apart and packed again, as words and as text; what has no text, what reads as text, what is cut off, and folders that will
+not do."""
 
 import functools
 import random
@@ -15,6 +16,7 @@ from packing import REFUSED
 from reference import fields
 from reference.fields import as_bytes, season
 from sheets.forms import words_to_text
+from text_faults import UNKNOWN
 
 SHEETS = 60
 # Why there is no text of the sheets that the planner refuses.
@@ -24,6 +26,14 @@ NO_TEXT = {
     "head": "word 1: the sheet ends where the number of spots of station 0 is due (refusal 2)",
     "long": "word 16000: the planner takes 16,000 words at most (refusal 10)",
 }
+# Words that read as text, and the words that they are packed to, or why there are none. The last has zeros behind the bytes that tell.
+READ_AS_TEXT = [(b"station 0\nspot 0 at 0.00 0.00\n\n\n", as_bytes(fields.sheet([[(0, 0)]], []))),
+                (b"stat", f"line 1: unknown word 'stat'; {UNKNOWN}"),
+                (b"\t\n\r ", "line 2: a line ends with a line feed, or with a carriage return and a line feed; "
+                             "here another sign of a new line stands in it"),
+                (b" " * 64_001 + bytes(3), "line 1: unknown word '\\x00\\x00\\x00'; " + UNKNOWN)]
+# Words that nearly do.
+READ_AS_WORDS = [b"abc\0", b"ab\x1fd", b"station 0\nspot 0 at 0.00 0.00\n\n\0", b" " * 64_000 + bytes(4)]
 
 
 def as_files(sheets):
@@ -71,6 +81,44 @@ def check_no_text(checks, folder):
     for made in ("text", "words"):
         checks.same(f"faulty sheets packed again, {made}",
                     called(["season", "pack", *map(str, sorted((folder / made).iterdir()))], b""), (0, source, ""))
+
+
+def check_read_as_text(checks, folder):
+    """Words that read as text are named, with text asked for or not, since they do not pack again to the same season."""
+    sheets = [b"", *(sheet for sheet, _ in READ_AS_TEXT), *READ_AS_WORDS]
+    for at, options in enumerate([[], ["--text"]]):
+        made = folder / f"read-{at}"
+        status, printed, said = called(["season", "unpack", *options, "-", str(made)], season(sheets))
+        named = [line for line in said.splitlines() if not line.endswith(" as words")]
+        checks.same(f"words that read as text {options}", (status, printed, named),
+                    (0, b"", [f"standard input, sheet {number}: its bytes read as text, so pack would take "
+                              f"{made / f'{number:05}.sheet'} for text" for number in range(2, len(READ_AS_TEXT) + 2)]))
+        checks.same(f"the files of words that read as text {options}", contents(made), as_files(sheets))
+        check_packed_as_text(checks, made)
+
+
+def check_packed_as_text(checks, folder):
+    """What was named is packed to another sheet or fails, as it is said; what was not is packed as it is."""
+    files = [str(path) for path in sorted(folder.iterdir())][1:]
+    for file, (sheet, packed) in zip(files, READ_AS_TEXT):
+        answer = (1, b"", f"sheet 1, {file}, {packed}\n") if isinstance(packed, str) else (0, season([packed]), "")
+        checks.same(f"words that read as text, {sheet[:20]}, packed", called(["season", "pack", file], b""), answer)
+    checks.same("words that do not read as text packed", called(["season", "pack", *files[len(READ_AS_TEXT):]], b""),
+                (0, season(READ_AS_WORDS), ""))
+
+
+def check_many(checks, folder):
+    """Sheets behind the last that is planned are taken apart too, which is said once."""
+    sheet = content("corner.sheet")
+    said = "standard input, sheet 4: only the first 3 sheets of a season are planned\n"
+    cut = "standard input, sheet 6: only 1 of the 4 bytes of its length\n"
+    for at, (count, behind, answer) in enumerate([(3, b"", (0, b"", "")), (4, b"", (0, b"", said)), (5, b"", (0, b"", said)),
+                                                  (5, b"\0", (1, b"", said + cut))]):
+        made = folder / f"many-{at}"
+        with mock.patch("sheets.unpacking.PLANNED_SHEETS", 3):
+            checks.same(f"{count} sheets unpacked where 3 are planned",
+                        called(["season", "unpack", "-", str(made)], season([sheet] * count) + behind), answer)
+        checks.same(f"the files of {count} sheets", contents(made), as_files([sheet] * count))
 
 
 def cut_cases():
@@ -130,5 +178,6 @@ def check_pieces(checks, folder):
 
 def run(checks):
     with tempfile.TemporaryDirectory() as made:
-        for check in (check_round_trips, check_no_text, check_cut, check_folders, check_full, check_pieces):
+        for check in (check_round_trips, check_no_text, check_read_as_text, check_many, check_cut, check_folders, check_full,
+                      check_pieces):
             check(checks, Path(made))

@@ -5,7 +5,7 @@ import tempfile
 
 from .fault import Failure, Fault
 from .forms import TELLING, is_text, text_to_words
-from .season import LENGTH, MOST_WORDS, PIECE, PLANNED_SHEETS
+from .season import LENGTH, MOST_WORDS, ONLY_FIRST, PIECE, PLANNED_SHEETS
 from .streams import name_of, naming, opened, say, write_out
 from .words import WORD_BYTES, whole_words
 
@@ -22,7 +22,7 @@ def pack(paths):
             with naming(f"sheet {number}, {name_of(path)}"), opened(path) as source:
                 add_sheet(season, source)
         if len(paths) > PLANNED_SHEETS:
-            say(f"only the first {PLANNED_SHEETS:,} sheets of a season are planned; this one has {len(paths):,}")
+            say(f"{ONLY_FIRST.format(PLANNED_SHEETS)}; this one has {len(paths):,}")
         season.seek(0)
         write_out(pieces_of(season))
 

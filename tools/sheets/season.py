@@ -11,6 +11,9 @@ MOST_WORDS = (1 << 32) - 1      # the highest length
 PLANNED_SHEETS = 10_000         # the planner reads none behind these
 PIECE = 1 << 16                 # bytes that are held at a time
 
+# What is said of a season of more sheets.
+ONLY_FIRST = "only the first {:,} sheets of a season are planned"
+
 
 class Packed:
     """A sheet of a season that is being read: its number, counted from 1, its length in words, and its bytes."""

@@ -3,8 +3,8 @@
 from pathlib import Path
 
 from .fault import Failure, Fault
-from .forms import words_to_text
-from .season import packed_sheets
+from .forms import TELLING, is_text, words_to_text
+from .season import ONLY_FIRST, PLANNED_SHEETS, packed_sheets
 from .sheet import MAX_WORDS
 from .streams import name_of, naming, opened, say, write_all
 from .words import too_long
@@ -18,12 +18,16 @@ def unpack(path, folder, as_text):
     with naming(name_of(path)), opened(path) as source:
         make_empty(folder)
         for packed in packed_sheets(source):
+            named = f"{name_of(path)}, sheet {packed.number}"
+            if packed.number == PLANNED_SHEETS + 1:
+                say(f"{named}: {ONLY_FIRST.format(PLANNED_SHEETS)}")
             ending, pieces, fault = text_or_words(packed) if as_text else (WORDS, packed.pieces(), None)
             file = folder / f"{packed.number:05}.{ending}"
             save(file, pieces)
             if fault:
-                say(f"{name_of(path)}, sheet {packed.number}, {fault.place}: {fault.reason}; "
-                    f"it has no text and is in {file} as words")
+                say(f"{named}, {fault.place}: {fault.reason}; it has no text and is in {file} as words")
+            if ending == WORDS and reads_as_text(file):
+                say(f"{named}: its bytes read as text, so pack would take {file} for text")
 
 
 def make_empty(folder):
@@ -57,3 +61,9 @@ def save(path, pieces):
         except BaseException:
             path.unlink()
             raise
+
+
+def reads_as_text(path):
+    """Whether a file of words would be packed as text."""
+    with naming(path), open(path, "rb") as file:
+        return is_text(file.read(TELLING))
