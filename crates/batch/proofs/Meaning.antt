@@ -28,7 +28,7 @@ use Rattle.figures.proofs.Tallies.{countedOneByOne}
 use Rattle.batch.specs.declared.Season.{Season}
 use Rattle.batch.specs.Season.{Sheet, cutOff, passedOver, whole, sheetsBehind, sheetsIn, solvedSheet, columnOf, figureOfSheet, seasonLine}
 use Rattle.batch.specs.Feeding.{LentSeason, startedSeason, countedSheet, behindSheet, afterFound, seasonTakes, fed, isCut, finishedFigures, finishedLine}
-use Rattle.batch.specs.Theorems.{newSeason, fedPieces, joinedPieces, FedIsSeason, PiecesAreSeason, LineIsSeason, LedBy, ReadAs}
+use Rattle.batch.specs.Theorems.{newSeason, fedPieces, joinedPieces, FedIsSeason, PiecesAreSeason, LineIsSeason, ReadAs}
 use Rattle.batch.proofs.Columns.{Countable, sheet-in-column}
 use Rattle.batch.proofs.Feeding.{at, fedInPieces, fed-none, fed-byte, still-takes-byte}
 
@@ -273,6 +273,11 @@ pub lineIsSeason : LineIsSeason
 lineIsSeason body pieces room = ap figuresLine (piecesAreSeason body pieces room)
 
 -- ---- what reading comes to
+
+-- a season and its buffer as some bytes leave them
+pub record LedBy (body : List ℕ) (f : LentSeason) : Type 0 where
+  pub bytes : List ℕ
+  pub leads : fed (newSeason body) bytes ≡ f
 
 pub led-start : (body : List ℕ) (s : Season) → s ≡ startedSeason → LedBy body (record { season = s; body = body })
 unfolding fed

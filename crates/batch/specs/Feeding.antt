@@ -38,7 +38,7 @@ afterFound f phase body Found.Length = record { phase = phase; figures = f }
 afterFound f phase body (Found.Sheet end) = behindSheet (countedSheet f (solvedOf (take end body)))
 afterFound f phase body Found.PassedOver = behindSheet (countedSheet f (refusedSolved 10))
 
--- whether a byte is taken: a season that is over takes none, nor does a phase or a figure that no bytes lead to
+-- whether a byte is taken: a season that is over takes none, nor does one whose phase or figures are out of range, or whose buffer is too short
 abbrev pub seasonTakes : Season → ℕ → Bool
 seasonTakes s room = takesByte (s .phase) room && takesSheet (s .figures)
 

@@ -26,7 +26,7 @@ use Rattle.batch.specs.Feeding.{LentSeason, startedSeason, seasonTakes, 
 abbrev pub FedInPieces : Type 0
 FedInPieces = (f : LentSeason) (xs ys : List ℕ) → fed f (xs ++ ys) ≡ fed (fed f xs) ys
 
--- a new season with a buffer for the longest sheet, whatever lies in it
+-- a new season with a buffer, whatever lies in it
 abbrev pub newSeason : List ℕ → LentSeason
 newSeason body = record { season = startedSeason; body = body }
 
@@ -53,11 +53,7 @@ abbrev pub LineIsSeason : Type 0
 LineIsSeason = (body : List ℕ) (pieces : List (List ℕ)) → 4 * longestSheet ≤ length body
     → finishedLine (fedPieces (newSeason body) pieces .season) ≡ seasonLine (joinedPieces pieces)
 
--- a season and its buffer as some bytes leave them, and so what reading these bytes comes to: the line that they have
-pub record LedBy (body : List ℕ) (f : LentSeason) : Type 0 where
-  pub bytes : List ℕ
-  pub leads : fed (newSeason body) bytes ≡ f
-
+-- what reading comes to: a season that some bytes lead to, and the line that they have
 pub record ReadAs (body : List ℕ) (s : Season) : Type 0 where
   pub bytes : List ℕ
   pub leads : fed (newSeason body) bytes .season ≡ s
@@ -93,11 +89,11 @@ pub record PlannedAt (sheet : Sheet) (cost : ℕ) : Type 0 where
 pub record SeasonTells (file : List ℕ) : Type 0 where
   -- at most 10,000 sheets
   pub few : length (seasonSheets file) ≤ mostSheets
-  -- every sheet has one of the columns; each column has the number of its sheets; and the counts add up to the sheets
+  -- every sheet has one of the columns; each column has the number of its sheets, by definition; and the counts add up to the sheets
   pub inColumns : Each InColumn (map figureOfSheet (seasonSheets file))
   pub counts : seasonFigures file .counts ≡ countsFrom 0 columnCount (map figureOfSheet (seasonSheets file))
   pub adds : sheetsOf (seasonFigures file) ≡ length (seasonSheets file)
-  -- the sum is that of the planned sheets' costs, each the least of its own instance
+  -- the sum is that of the planned sheets' costs, by definition, each the least of its own instance
   pub sums : seasonFigures file .sum ≡ sumOf (costsOf (map figureOfSheet (seasonSheets file)))
   pub planned : Each (λ sheet. isPlanned (figureOfSheet sheet) ≡ true → PlannedAt sheet (figureOfSheet sheet .cost)) (seasonSheets file)
   -- the largest and its sheet

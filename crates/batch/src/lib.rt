@@ -124,8 +124,8 @@ fn takes(season: Season, room: usize) -> bool
     cutting::takes(phase, room) && figures::takes(season.figures)
 }
 
-// Bytes taken as they come: they lead where the same bytes in other pieces do. A season that is over stays as it is, and so does one that no bytes led
-// to, or whose buffer is too short.
+// Bytes taken as they come: they lead where the same bytes in other pieces do. A season that is over stays as it is, and so does one
+// whose phase or figures are out of range, or whose buffer is too short.
 pub fn feed(season: Season, body: &mut [u8], bytes: &[u8]) -> Season
     ensures returned { λ r. ⌜ record { season = r; body = now (body .exit) } ≡ fed (record { season = season; body = now (body .entry) }) (now (bytes .entry)) ⌝ }
 {
@@ -146,7 +146,7 @@ pub fn feed(season: Season, body: &mut [u8], bytes: &[u8]) -> Season
     state
 }
 
-// How many bytes to read next, at most so many: none behind the sheet that the season is in, and none where it is over.
+// How many bytes to read next, at most so many: none behind the length or the sheet that the season is in, and none where it is over.
 pub fn wanted(season: Season, most: usize) -> usize
     ensures returned { λ r. ⌜ r ≡ min (wantedIn (season .phase)) most ⌝ }
 {

@@ -40,14 +40,14 @@ byteCut (Phase.Passing left) body b =
     (record { phase = Phase.Passing (left - 1); body = body; found = Found.Nothing })
 byteCut Phase.Over body b = record { phase = Phase.Over; body = body; found = Found.Nothing }
 
--- the phases that the bytes of a season lead to
+-- the phases that take a byte: fewer bytes than a length has, fewer than a sheet of at most 64,000 has, or some left to pass over
 unfoldable pub takesIn : Phase → Bool
 takesIn (Phase.Length at) = ltb at 4
 takesIn (Phase.Body at end) = ltb at end && leb end (4 * longestSheet)
 takesIn (Phase.Passing left) = ltb 0 left
 takesIn Phase.Over = false
 
--- a byte is taken in one of them, with a buffer for the longest sheet
+-- and the buffer has room for the longest sheet
 abbrev pub takesByte : Phase → ℕ → Bool
 takesByte phase room = leb (4 * longestSheet) room && takesIn phase
 

@@ -31,7 +31,7 @@ sumOf (k ∷ ks) = k + sumOf ks
 abbrev pub sheetsOf : Figures → ℕ
 sheetsOf f = sumOf (f .counts)
 
--- a planned sheet leads if it is the first, or its cost is above the largest so far
+-- a planned sheet leads if it is the first planned one, or its cost is above the largest so far
 unfoldable pub leads : Figures → ℕ → ℕ → Bool
 leads f column cost = eqb column plannedColumn && (eqb (f .first) 0 || ltb (f .largest) cost)
 

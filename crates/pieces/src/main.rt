@@ -8,7 +8,7 @@ ghost use Rattle.batch.specs.Season.{seasonLine};
 ghost use Rattle.batch.specs.Feeding.{finishedLine};
 use batch::Season;
 
-// The longest season that is taken, behind the word.
+// The most bytes that are read: the word and a season of 131,072.
 const LONGEST: usize = 131076;
 
 // The season that bytes lead to, in pieces of a length.

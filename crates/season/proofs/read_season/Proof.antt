@@ -4,8 +4,7 @@ use mathlib.Core.Path.{_≡_, refl, sym, _∙_}
 use lib.ListN.{length}
 use lib.Seq.{length-take-le}
 use borrow.Author.Needs.{needs}
-use Rattle.batch.specs.Theorems.{LedBy}
-use Rattle.batch.proofs.Meaning.{led-start, led-on, read-as}
+use Rattle.batch.proofs.Meaning.{LedBy, led-start, led-on, read-as}
 use Rattle.season.proofs.read_season.Statement.{statement}
 use Rattle.season.proofs.read_season.Tie as tie
 
