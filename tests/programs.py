@@ -22,11 +22,17 @@ def given_whole(program, source):
 
 
 def given_as_file(program, source):
+    return left_in_file(program, source)[0]
+
+
+def left_in_file(program, source):
+    """The answer, and what the program has not read of a file."""
     with tempfile.TemporaryFile() as file:
         file.write(source)
         file.seek(0)
         ran = subprocess.run([program], stdin=file, capture_output=True, check=False)
-    return shown(ran.returncode, ran.stdout, ran.stderr)
+        # The program's place in the file is this process's too.
+        return shown(ran.returncode, ran.stdout, ran.stderr), source[os.lseek(file.fileno(), 0, os.SEEK_CUR):]
 
 
 def given_in_pieces(program, source, length):

@@ -5,7 +5,7 @@ import socket
 import tempfile
 from pathlib import Path
 
-from commands import EXAMPLES
+from commands import EXAMPLES, check_arguments
 from figured import figured, figured_from, figured_to_full, season_with
 
 UNREADABLE = "season: the season cannot be read\n"
@@ -19,17 +19,10 @@ PROGRAMS = {
 }
 
 
-def check_arguments(checks):
-    usage = "season: usage: season FILE, or season - for the standard input; season --help says more\n"
-    for arguments, said in [([], usage), (["-", "-"], usage), (["nowhere.season"], "season: there is no file nowhere.season\n"),
-                            (["examples"], "season: examples is a directory\n")]:
-        checks.same(f"season {' '.join(arguments)}", figured(arguments), (1, b"", said))
-    checks.same("season to a full device", figured_to_full(["examples/three.season"]), (1, "season: the figures cannot be written"))
-    status, printed, said = figured(["--help"])
-    checks.same("season --help", (status, said), (0, ""))
-    for part in (b"usage: season FILE", b"one line of 13 numbers", b"2 to 6    how many were refused under 1, 2, 3, 4 and 5",
-                 b"13        the first sheet", b"tools/sheet season pack", b"The exit status is 0"):
-        checks.same(f"season --help has {part}", part in printed, True)
+def check_season_arguments(checks):
+    parts = (b"usage: season FILE", b"one line of 13 numbers", b"2 to 6    how many were refused under 1, 2, 3, 4 and 5",
+             b"13        the first sheet", b"tools/sheet season pack", b"The exit status is 0")
+    check_arguments(checks, "season", figured, figured_to_full, "examples/three.season", "the figures cannot be written", parts)
 
 
 def check_unreadable(checks, folder):
@@ -56,4 +49,4 @@ def run(checks):
     with tempfile.TemporaryDirectory() as made:
         check_unreadable(checks, Path(made))
         check_programs(checks, Path(made))
-    check_arguments(checks)
+    check_season_arguments(checks)

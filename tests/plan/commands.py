@@ -24,6 +24,20 @@ def planned_to_full(arguments, command=PLAN):
     return done.returncode, done.stderr.decode().splitlines()[-1]
 
 
+def check_arguments(checks, name, answered, to_full, example, unwritten, parts):
+    """What a command says of its arguments and of an answer that cannot be written, and that its help has these parts."""
+    usage = f"{name}: usage: {name} FILE, or {name} - for the standard input; {name} --help says more\n"
+    missing = "nowhere" + Path(example).suffix
+    for arguments, said in [([], usage), (["-", "-"], usage), ([missing], f"{name}: there is no file {missing}\n"),
+                            (["examples"], f"{name}: examples is a directory\n")]:
+        checks.same(f"{name} {' '.join(arguments)}", answered(arguments), (1, b"", said))
+    checks.same(f"{name} to a full device", to_full([example]), (1, f"{name}: {unwritten}"))
+    status, printed, said = answered(["--help"])
+    checks.same(f"{name} --help", (status, said), (0, ""))
+    for part in parts:
+        checks.same(f"{name} --help has {part}", part in printed, True)
+
+
 def tools_without(*missing):
     """The commands that may be called, but for these, as a dictionary of names and files."""
     path = {name: Path(folder) / name for folder in reversed(os.get_exec_path()) if os.path.isdir(folder)

@@ -3,7 +3,7 @@
 import tempfile
 from pathlib import Path
 
-from commands import EXAMPLES, linked, planned, planned_to_full, tools_without
+from commands import EXAMPLES, check_arguments, linked, planned, planned_to_full, tools_without
 from reference import fields, words
 
 NAMES = ["corner", "headland", "terraces"]
@@ -63,16 +63,9 @@ def check_faults(checks, folder):
     checks.same("the longest instance", (status, printed[:4]), (0, b"PLAN"))
 
 
-def check_arguments(checks):
-    usage = "plan: usage: plan FILE, or plan - for the standard input; plan --help says more\n"
-    for arguments, said in [([], usage), (["-", "-"], usage), (["nowhere.sheet"], "plan: there is no file nowhere.sheet\n"),
-                            (["examples"], "plan: examples is a directory\n")]:
-        checks.same(f"plan {' '.join(arguments)}", planned(arguments), (1, b"", said))
-    checks.same("plan to a full device", planned_to_full(["examples/corner.sheet"]), (1, "plan: the answer cannot be written"))
-    status, printed, said = planned(["--help"])
-    checks.same("plan --help", (status, said), (0, ""))
-    for part in (b"usage: plan FILE", b"REFUSED n", b"PAUSED s BOUND b", b"FULL s BOUND b", b"The exit status is 0 for PLAN"):
-        checks.same(f"plan --help has {part}", part in printed, True)
+def check_plan_arguments(checks):
+    parts = (b"usage: plan FILE", b"REFUSED n", b"PAUSED s BOUND b", b"FULL s BOUND b", b"The exit status is 0 for PLAN")
+    check_arguments(checks, "plan", planned, planned_to_full, "examples/corner.sheet", "the answer cannot be written", parts)
 
 
 def check_without_python(checks, folder):
@@ -93,4 +86,4 @@ def run(checks):
         check_words(checks, folder)
         check_faults(checks, folder)
         check_without_python(checks, folder)
-    check_arguments(checks)
+    check_plan_arguments(checks)

@@ -4,9 +4,8 @@ answers are worked out by hand."""
 import os
 import resource
 import subprocess
-import tempfile
 
-from programs import at_failed_read, at_failed_write, given_one_by_one, shown
+from programs import at_failed_read, at_failed_write, given_one_by_one, left_in_file, shown
 from reference.fields import NO_WORDS, as_bytes, length, season, sheet
 from seasons import ONE, PASSED_OVER
 from sheets import HERE
@@ -27,16 +26,6 @@ def left_in_pipe(program, source):
         os.close(writer)
         ran = subprocess.run([program], stdin=pipe, capture_output=True, check=False)
         return shown(ran.returncode, ran.stdout, ran.stderr), pipe.read()
-
-
-def left_in_file(program, source):
-    """The answer, and what the program has not read of a file."""
-    with tempfile.TemporaryFile() as file:
-        file.write(source)
-        file.seek(0)
-        ran = subprocess.run([program], stdin=file, capture_output=True, check=False)
-        # The program's place in the file is this process's too.
-        return shown(ran.returncode, ran.stdout, ran.stderr), source[os.lseek(file.fileno(), 0, os.SEEK_CUR):]
 
 
 def check_nothing_behind_is_read(checks, program):
