@@ -6,10 +6,10 @@
 #include <stdint.h>
 
 /* The version of this interface. Another major version may change what is here; another minor one only adds to it. */
-#define GOTALHIM_VERSION_MAJOR 1
+#define GOTALHIM_VERSION_MAJOR 2
 #define GOTALHIM_VERSION_MINOR 0
 #define GOTALHIM_VERSION_PATCH 0
-#define GOTALHIM_VERSION "1.0.0"
+#define GOTALHIM_VERSION "2.0.0"
 
 #ifdef __cplusplus
 extern "C" {
@@ -91,7 +91,7 @@ enum gotalhim_outcome {
 
 /*
  * Makes the instance of a sheet: first an entry for each pair of values of neighbouring variables, which costs the
- * distance in whole metres, then the sheet's own entries.
+ * distance, then the sheet's own entries. Every distance is the nearest whole metre, a half going up.
  * Tests: 1 to 5 on the sheet; 10 if the instance is longer than the target.
  * Answer: the number of words written.
  * Memory: the instance in front of the target, the rest kept.
@@ -189,8 +189,8 @@ uint32_t gotalhim_check(const uint32_t *instance, size_t instance_length,
                         uint64_t *answer, size_t answer_length);
 
 /*
- * The distance in whole metres from a position, an easting word and a northing word, to the place of the plan's value
- * of a variable.
+ * The distance from a position, an easting word and a northing word, to the place of the plan's value of a variable: the
+ * nearest whole metre, a half going up.
  * Tests: 1 to 5 on the sheet; 8.
  * Answer: the metres.
  */

@@ -6,11 +6,12 @@ pub struct Place {
     pub northing: i32,
 }
 
-/// The largest whole m with 10,000 times m squared at most the sum of the squared differences.
+/// The nearest whole metre, a half going up.
 pub fn metres(here: Place, there: Place) -> u32 {
     let east = i64::from(here.easting) - i64::from(there.easting);
     let north = i64::from(here.northing) - i64::from(there.northing);
-    let square_metres = (east * east + north * north) / 10_000;
+    let squares_of_half_a_metre = (east * east + north * north) / 2_500;
     // Exact: the numbers are far below 2^52, where the rounded root of m * m - 1 stays below m.
-    (square_metres as f64).sqrt() as u32
+    let half_metres = (squares_of_half_a_metre as f64).sqrt() as u32;
+    (half_metres + 1) / 2
 }

@@ -1,4 +1,4 @@
-"""Readouts at the ends of every range: position, place, variable, plan, and metres around whole ones."""
+"""Readouts at the ends of every range: position, place, variable, plan, and distances around half and whole metres."""
 
 from reference import fields, words
 
@@ -54,11 +54,11 @@ def plans(both):
             both.readout(sheet, plan, variable, *position(FAR, FAR))
 
 
-def whole_metres(both):
-    """Squares just below, at and above those of whole metres, up to the longest distance: 28,284 m."""
+def half_metres(both):
+    """Squares just below, at and above those of half and whole metres, up to the longest distance: 28,284 m."""
     sheet = fields.sheet([[(-FAR, -FAR), (0, 0)]], [])
-    for metres in (1, 2, 3, 5, 99, 100, 4_999, 5_000, 9_999, 10_000):
-        for east in range(100 * metres - 2, min(100 * metres + 2, FAR + 1)):
+    for halves in (1, 2, 3, 4, 5, 10, 199, 200, 201, 9_999, 10_000, 19_999, 20_000):
+        for east in range(50 * halves - 2, min(50 * halves + 2, FAR + 1)):
             for north in (-1, 0, 1, 10, 14, 15):
                 both.readout(sheet, [1], 0, *position(east, north))
     for east in range(FAR - 100, FAR + 1):
@@ -79,5 +79,5 @@ def compare(both):
     position_words(both)
     variables(both)
     plans(both)
-    whole_metres(both)
+    half_metres(both)
     input_first(both)

@@ -24,8 +24,8 @@ def cases():
     yield "each outcome, the last first", season([sheets[name] for name in OUTCOMES[::-1]]), b"1 1 1 1 1 1 1 1 1 1 10 10 10\n"
     yield "the first of two equal costs", season([b"", corner, b"", corner]), b"2 2 0 0 0 0 0 0 0 0 20 10 2\n"
     yield "a cost of 0", season([b"", sheets["one-station"]]), b"1 1 0 0 0 0 0 0 0 0 0 0 2\n"
-    yield "a last sheet cut off", three[:-1], b"2 1 0 0 0 0 0 0 0 0 292 282 2\n"
-    yield "a length cut off", three + b"\1", b"3 1 0 0 0 0 0 0 0 0 601 309 3\n"
+    yield "a last sheet cut off", three[:-1], b"2 1 0 0 0 0 0 0 0 0 294 284 2\n"
+    yield "a length cut off", three + b"\1", b"3 1 0 0 0 0 0 0 0 0 606 312 3\n"
     yield "a long sheet passed over", season([bytes(64_004), corner]), b"1 0 0 0 0 0 1 0 0 0 10 10 2\n"
 
 

@@ -14,7 +14,7 @@ PATIENCE = 60
 
 NONE = b"0 0 0 0 0 0 0 0 0 0 0 0 0\n"
 ONE_REFUSED = b"0 1 0 0 0 0 0 0 0 0 0 0 0\n"
-THREE = b"3 0 0 0 0 0 0 0 0 0 601 309 3\n"
+THREE = b"3 0 0 0 0 0 0 0 0 0 606 312 3\n"
 
 
 def figured_from(stdin, command=SEASON, **options):

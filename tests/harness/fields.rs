@@ -5,7 +5,7 @@ use plain::words::{binding, word, COST, EASTING, HEAD, NORTHING, SIZE};
 use crate::random::Random;
 
 const COSTS: [u32; 12] = [0, 0, 1, 1, 2, 3, 5, 9, 40, 1_000, 65_534, 65_535];
-const EDGES: [i32; 12] = [0, 1, 50, 99, 100, 101, 300, 400, 5_000, 70_711, 999_999, 1_000_000];
+const EDGES: [i32; 12] = [0, 1, 49, 50, 51, 100, 300, 400, 5_000, 70_711, 999_999, 1_000_000];
 
 pub struct Field {
     pub sizes: Vec<u32>,
@@ -110,7 +110,7 @@ fn entry(random: &mut Random, sizes: &[u32]) -> (Vec<(usize, usize)>, u32) {
     (bindings, random.pick(&COSTS))
 }
 
-/// A coordinate in range, often near a limit or near a whole number of metres.
+/// A coordinate in range, often near a limit or near half a metre.
 pub fn centimetres(random: &mut Random) -> i32 {
     let size = if random.percent(60) { random.pick(&EDGES) } else { random.below(1_000_001) as i32 };
     if random.percent(50) {

@@ -6,6 +6,7 @@ import inputs
 import lists
 import proved
 import readouts
+import roots
 from different import Different, require
 from reference import fields, words
 
@@ -27,15 +28,26 @@ COMPARISONS = {
 }
 
 
+def ended(comparison):
+    try:
+        comparison()
+    except Different:
+        return True
+    return False
+
+
 def noticed(comparison, spoil):
     """Whether a comparison ends where each call's number and arguments are spoiled after it was made."""
     made = proved.call
     with mock.patch.object(proved, "call", lambda name, arguments: spoil(made(name, arguments), arguments)):
-        try:
-            comparison()
-        except Different:
-            return True
-    return False
+        return ended(comparison)
+
+
+def root_noticed(wrong):
+    """Whether the comparison of roots ends where each is off by this."""
+    made = roots.root
+    with mock.patch.object(roots, "root", lambda square: made(square) + wrong):
+        return ended(lambda: roots.same_metres(2_500))
 
 
 def wrong_bit(place, past):
@@ -56,4 +68,5 @@ def run():
         require(not noticed(comparison, lambda number, arguments: number), f"{name} differs with nothing spoiled")
     for name, comparison, what, spoil in spoiled:
         require(noticed(comparison, spoil), f"{name} does not notice a wrong {what}")
-    return len(spoiled)
+    require([root_noticed(wrong) for wrong in (-1, 0, 1)] == [True, False, True], "roots do not notice a metre more or less")
+    return len(spoiled) + 2

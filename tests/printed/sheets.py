@@ -10,6 +10,9 @@ HERE = (0, 0)
 FAR = 1_000_000
 # Document 01's worked example.
 EXAMPLE = sheet([[(0, 0)], [(300, 400), (600, 800)]], [([(1, 0)], 9)])
+# From one place to a spot 1.50, 2 or 1.20 m away and back, the last at a cost of 1: 4, 4 and 3 by the nearest metre. Rounded down, the
+# first is best at 2; rounded up, the last is worst at 5.
+ROUNDED = sheet([[HERE], [(150, 0), (200, 0), (120, 0)], [HERE]], [([(1, 2)], 1)])
 
 
 def spread(seed, stations, spots, width, highest):
@@ -32,6 +35,7 @@ def combined(seed, stations, spots, width, entry_total):
 def plans():
     """Fields that are planned to the end."""
     yield "example", EXAMPLE
+    yield "rounded", ROUNDED
     yield "one-station", sheet([[HERE, HERE]], [])
     yield "one-spot", sheet([[(5, 5)]], [([(0, 0)], 7)])
     yield "all-forbidden", sheet([[HERE, HERE]], [([(0, 0)], 65_535), ([(0, 1)], 65_535)])
@@ -148,8 +152,8 @@ def full_in_the_run():
 
 def limits():
     """Exactly as many steps as the limit allows, and one more."""
-    yield "16000-steps", sheet(*spread(1_627, 8, 8, 30_000, 300))
-    yield "paused-16001-steps", sheet(*spread(2_595, 8, 8, 30_000, 300))
+    yield "16000-steps", sheet(*spread(454, 8, 8, 30_000, 300))
+    yield "paused-16001-steps", sheet(*spread(661, 8, 8, 30_000, 300))
 
 
 def odd_lengths():

@@ -8,7 +8,7 @@ from reference.limits import MAX_COORDINATE, MAX_COST, MAX_SIZE, MAX_VARIABLES
 from sheets.forms import text_to_words, words_to_text
 
 SHEETS = 200
-COORDINATES = [0, 1, -1, 5, -5, 99, -99, 100, -100, 12_345, MAX_COORDINATE, -MAX_COORDINATE]
+COORDINATES = [0, 1, -1, 5, -5, 49, -49, 50, -50, 99, -99, 100, -100, 12_345, MAX_COORDINATE, -MAX_COORDINATE]
 COSTS = [0, 1, 9, 10, 300, MAX_COST - 1, MAX_COST]
 # 14,080 words, whose instance has 16,000: 13 for the stations, 3 for each of 704 legs, 5 for each entry.
 LONGEST_INSTANCE = [[(0, 0)] * MAX_SIZE] * MAX_VARIABLES, [([(0, 0), (1, 0), (2, 0), (3, 0)], 1)] * 2_775

@@ -5,7 +5,7 @@ from .sheet import sizes_of
 TABLE_WORDS = 15_014    # the program's buffer
 ROW_WORDS = 5
 NO_ROOM = 12            # the planner's number
-METRE = 100             # centimetres
+HALF_METRE = 50         # centimetres
 
 
 def room_fault(sheet):
@@ -27,9 +27,9 @@ def clauses(sheet):
 
 
 def costly_legs(places):
-    """The legs of a metre or more."""
+    """The legs that cost something: from half a metre on, the nearest metre is not 0."""
     return [((variable, here), (variable + 1, there))
             for variable, (starts, ends) in enumerate(zip(places, places[1:]))
             for here, start in enumerate(starts)
             for there, end in enumerate(ends)
-            if (start[0] - end[0]) ** 2 + (start[1] - end[1]) ** 2 >= METRE ** 2]
+            if (start[0] - end[0]) ** 2 + (start[1] - end[1]) ** 2 >= HALF_METRE ** 2]

@@ -7,7 +7,7 @@ from reference.tables import Row, table_words
 
 
 def chosen_calls():
-    return entry_calls() + full_calls() + faulty_tables() + heavy_and_full() + claim_calls()
+    return entry_calls() + full_calls() + faulty_tables() + heavy_and_full() + claim_calls() + distance_calls()
 
 
 def entry_calls():
@@ -53,3 +53,10 @@ def claim_calls():
     derivation = [words.step(0, 0, 1)]
     return [calls.check(instance, derivation, [value], claimed + high, [0] * 20)
             for value in range(2) for claimed in range(4) for high in (0, 1 << 28, 1 << 32, 1 << 63)]
+
+
+def distance_calls():
+    """Distances just below, at and above half and whole metres."""
+    sheet = fields.sheet([[(0, 0)]], [])
+    return [calls.readout(sheet, [0], 0, words.easting(50 * halves + more), words.northing(0))
+            for halves in (1, 2, 3, 4, 199, 200, 19_998, 19_999) for more in (-1, 0, 1)]

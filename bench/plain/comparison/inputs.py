@@ -8,7 +8,7 @@ from reference.tables import Row, read_table, table_words
 
 ROUNDS = 60
 COSTS = [0, 0, 1, 1, 2, 3, 5, 9, 65_535]
-NEAR = [0, 1, 2, 50, 99, 100, 101, 5_000, MAX_COORDINATE]
+NEAR = [0, 1, 2, 49, 50, 51, 100, 150, 5_000, MAX_COORDINATE]
 
 
 def calls_of_round(rng):

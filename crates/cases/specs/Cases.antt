@@ -27,7 +27,7 @@ pub record FieldLine : Type 0 where
   pub assignment : List ℕ
   pub least : ℕ
 
--- a squared distance in square centimetres with its whole metres
+-- a squared distance in square centimetres with its nearest whole metre
 pub record RootLine : Type 0 where
   pub square : ℕ
   pub whole : ℕ
@@ -168,9 +168,9 @@ cases =
       assignment = 1 ∷ [];
       least = 0;
     })
-    -- P8: the root just below a metre, and at it
-    ∷ ofRoot (record { square = 9999; whole = 0 })
-    ∷ ofRoot (record { square = 10000; whole = 1 })
+    -- P8, by document 02's wish 2: just below half a metre, and at it
+    ∷ ofRoot (record { square = 2499; whole = 0 })
+    ∷ ofRoot (record { square = 2500; whole = 1 })
     ∷ []
 
 -- the claim: by the definitions every line comes out as stated

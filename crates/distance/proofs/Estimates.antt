@@ -1,10 +1,10 @@
 -- The falling estimates of an integer root: from x to half of x + n / x. An estimate that falls is still at least the root, and one that does not fall has a square of at most n.
 use Prim.Native.Nat.{ℕ, _+_, _-_, _*_, _/_, _≤_, _<_}
-use native.Mathlib.Nat.{le-dest, lt-mul-div-succ, le-div-iff-mul-le, div-le-self}
+use native.Mathlib.Nat.{le-dest, lt-mul-div-succ, le-div-iff-mul-le, div-le-self, mul-le-mul}
 use native.Mathlib.Omega.{arith}
-use mathlib.Core.Path.{_≡_, subst}
-use Rattle.distance.specs.Metres.{metres}
-use Rattle.distance.proofs.Largest.{metres-between}
+use mathlib.Core.Path.{_≡_, refl, subst}
+use mathlib.Core.Logic.{inl, inr}
+use Rattle.distance.specs.Metres.{Nearest}
 
 -- x is an estimate: positive, at most n, and at least the root of n
 pub record Estimate (n x : ℕ) : Type 0 where
@@ -43,10 +43,15 @@ again n x a h =
 square-at-most : (n x : ℕ) → 0 < x → x ≤ (x + n / x) / 2 → x * x ≤ n
 square-at-most n x h k = le-div-iff-mul-le h .0 (omega arith)
 
-pub settled : (q x : ℕ) → Estimate (q / 10000) x → x ≤ (x + q / 10000 / x) / 2 → x ≡ metres q
-settled q x a h =
-    let s : x * x ≤ q / 10000 = square-at-most (q / 10000) x (a .positive) h in
-    metres-between q x (omega arith) (omega (arith, a .above))
+-- x whole half metres, with m the half of the next number: 2m - 1 ≤ x ≤ 2m
+halved : (q n x m : ℕ) → n ≡ q / 2500 → x * x ≤ n → n < (x + 1) * (x + 1) → 0 < x → m ≡ (x + 1) / 2 → Nearest q m
+halved q n x m e low high p h =
+    let below : (2 * m - 1) * (2 * m - 1) ≤ x * x = mul-le-mul (omega arith) (omega arith) in
+    let above : (x + 1) * (x + 1) ≤ (2 * m + 1) * (2 * m + 1) = mul-le-mul (omega arith) (omega arith) in
+    record { notBefore = inr (omega arith); notNext = omega arith }
 
-pub no-metre : (q : ℕ) → q / 10000 ≡ 0 → 0 ≡ metres q
-no-metre q h = metres-between q 0 (omega arith) (omega arith)
+pub settled : (q n x m : ℕ) → n ≡ q / 2500 → Estimate n x → x ≤ (x + n / x) / 2 → m ≡ (x + 1) / 2 → Nearest q m
+settled q n x m e a h k = halved q n x m e (square-at-most n x (a .positive) h) (a .above) (a .positive) k
+
+pub no-metre : (q : ℕ) → q < 2500 → Nearest q 0
+no-metre q h = record { notBefore = inl refl; notNext = omega arith }

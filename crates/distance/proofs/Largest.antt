@@ -1,57 +1,72 @@
--- `metres q` is the largest whole m with 10,000 times m squared at most q, the only one, and the one between its square and the next; and the most that two points of the field can give.
+-- `metres q` is the nearest whole metre, and the only one, since it is the largest that q reaches; and the most that two points of the field can give.
 use Prim.Native.Nat.{ℕ, zero, suc, _+_, _-_, _*_, _/_, _≤_, _<_}
 use native.Mathlib.Nat.{mul-le-mul}
 use native.Mathlib.Omega.{arith}
 use native.Mathlib.Decide.{decLe}
 use mathlib.Core.Path.{_≡_, refl}
 use mathlib.Core.Bool.{Bool, true, false}
+use mathlib.Core.Logic.{_⊎_, inl, inr, ⊎-elim}
 use lib.Dec.{leb}
 use borrow.Author.Tests.{leb-true, leb-false}
-use Rattle.distance.specs.Metres.{largestUpTo, metres, LargestWhole, MetresAreLargest, maxOffset, maxMetres, difference, metresBetween}
+use Rattle.distance.specs.Metres.{halfBeyond, largestUpTo, metres, Nearest, MetresAreNearest, maxOffset, maxMetres, difference, metresBetween}
 
-up-to-fits : (b q : ℕ) → 10000 * (largestUpTo b q * largestUpTo b q) ≤ q
+half-beyond : (m : ℕ) → halfBeyond m ≡ 2500 * ((2 * m + 1) * (2 * m + 1))
+unfolding halfBeyond
+half-beyond m = omega arith
+
+-- the first half of the law, of m as it is looked for
+abbrev NotBefore : ℕ → ℕ → Type 0
+NotBefore q m = (m ≡ 0) ⊎ (2500 * ((2 * m - 1) * (2 * m - 1)) ≤ q)
+
+not-before : (b q : ℕ) → halfBeyond b ≤ q → NotBefore q (suc b)
+not-before b q h = let t : 2 * suc b - 1 ≡ 2 * b + 1 = omega arith in inr (rw t (omega (arith, half-beyond b)))
+
+up-to-not-before : (b q : ℕ) → NotBefore q (largestUpTo b q)
 unfolding largestUpTo
-up-to-fits zero q = omega arith
-up-to-fits (suc b) q = go (leb (10000 * (suc b * suc b)) q) refl (up-to-fits b q)
+up-to-not-before zero q = inl refl
+up-to-not-before (suc b) q = go (leb (halfBeyond b) q) refl (up-to-not-before b q)
   where
-    go : (t : Bool) → leb (10000 * (suc b * suc b)) q ≡ t → 10000 * (largestUpTo b q * largestUpTo b q) ≤ q → 10000 * (largestUpTo (suc b) q * largestUpTo (suc b) q) ≤ q
-    go true e ih = rw e (leb-true _ _ e)
+    go : (t : Bool) → leb (halfBeyond b) q ≡ t → NotBefore q (largestUpTo b q) → NotBefore q (largestUpTo (suc b) q)
+    go true e ih = rw e (not-before b q (leb-true (halfBeyond b) q e))
     go false e ih = rw e ih
 
-up-to-greatest : (b q m : ℕ) → m ≤ b → 10000 * (m * m) ≤ q → m ≤ largestUpTo b q
+up-to-greatest : (b q m : ℕ) → m < b → halfBeyond m ≤ q → m < largestUpTo b q
 unfolding largestUpTo
 up-to-greatest zero q m h k = h
-up-to-greatest (suc b) q m h k = go (leb (10000 * (suc b * suc b)) q) refl (decLe m b) (λ below. up-to-greatest b q m below k)
+up-to-greatest (suc b) q m h k = go (leb (halfBeyond b) q) refl (decLe b m) (λ below. up-to-greatest b q m below k)
   where
-    go : (t : Bool) → leb (10000 * (suc b * suc b)) q ≡ t → Dec (m ≤ b) → (m ≤ b → m ≤ largestUpTo b q) → m ≤ largestUpTo (suc b) q
+    go : (t : Bool) → leb (halfBeyond b) q ≡ t → Dec (b ≤ m) → (m < b → m < largestUpTo b q) → m < largestUpTo (suc b) q
     go true e d ih = rw e h
-    go false e (yes below) ih = rw e (ih below)
-    go false e (no top) ih =
-        let s : suc b * suc b ≤ m * m = mul-le-mul (omega arith) (omega arith) in
-        absurd (omega (arith, leb-false (10000 * (suc b * suc b)) q e))
+    go false e (yes top) ih = let s : m ≡ b = omega arith in absurd (omega (arith, leb-false (halfBeyond b) q e, rw s at k))
+    go false e (no below) ih = rw e (ih (omega arith))
 
-is-largest : (q : ℕ) → LargestWhole q (metres q)
+not-next : (q : ℕ) → q < 2500 * ((2 * metres q + 1) * (2 * metres q + 1))
 unfolding metres
-is-largest q = record { fits = omega (arith, up-to-fits (q / 10000) q); greatest = λ k h. above k (omega arith) }
+not-next q = either (metres q) refl (decLe (halfBeyond (metres q)) q)
   where
-    above : (k : ℕ) → 10000 * (k * k) ≤ q → k ≤ largestUpTo (q / 10000) q
-    above zero h = omega arith
-    above (suc k) h = up-to-greatest (q / 10000) q (suc k) (omega arith) h
+    either : (m : ℕ) → m ≡ metres q → Dec (halfBeyond m ≤ q) → q < 2500 * ((2 * m + 1) * (2 * m + 1))
+    either m e (yes passed) = absurd (omega (arith, e, up-to-greatest (q / 2500) q m (omega (arith, half-beyond m)) passed))
+    either m e (no below) = omega (arith, half-beyond m)
 
-pub metresAreLargest : MetresAreLargest
-metresAreLargest =
+-- no number above one whose next is not reached is reached
+no-larger : (q m k : ℕ) → q < 2500 * ((2 * m + 1) * (2 * m + 1)) → NotBefore q k → k ≤ m
+no-larger q m k h r = ⊎-elim (λ none. omega arith) (λ reached. either reached (decLe k m)) r
+  where
+    either : 2500 * ((2 * k - 1) * (2 * k - 1)) ≤ q → Dec (k ≤ m) → k ≤ m
+    either reached (yes below) = below
+    either reached (no above) =
+        let s : (2 * m + 1) * (2 * m + 1) ≤ (2 * k - 1) * (2 * k - 1) = mul-le-mul (omega arith) (omega arith) in absurd (omega arith)
+
+is-nearest : (q : ℕ) → Nearest q (metres q)
+unfolding metres
+is-nearest q = record { notBefore = up-to-not-before (q / 2500) q; notNext = omega (arith, not-next q) }
+
+pub metresAreNearest : MetresAreNearest
+metresAreNearest =
     record {
-      holds = is-largest;
-      unique = λ q m l. omega (arith, l .greatest (metres q) (is-largest q .fits), is-largest q .greatest m (l .fits));
+      holds = is-nearest;
+      unique = λ q m l. omega (arith, no-larger q m (metres q) (omega (arith, l)) (is-nearest q .notBefore), no-larger q (metres q) m (not-next q) (l .notBefore));
     }
-
--- between a square and the next there is one answer
-pub metres-between : (q m : ℕ) → 10000 * (m * m) ≤ q → q < 10000 * ((m + 1) * (m + 1)) → m ≡ metres q
-metres-between q m h k = metresAreLargest .unique q m (record { fits = h; greatest = λ j f. below j f (decLe j m) })
-  where
-    below : (j : ℕ) → 10000 * (j * j) ≤ q → Dec (j ≤ m) → j ≤ m
-    below j f (yes l) = l
-    below j f (no l) = let s : (m + 1) * (m + 1) ≤ j * j = mul-le-mul (omega arith) (omega arith) in absurd (omega arith)
 
 -- ---- how far two points of the field can lie apart
 
@@ -59,15 +74,8 @@ pub square-bounded : (a : ℕ) → a ≤ maxOffset → a * a ≤ maxOffset * max
 square-bounded a h = mul-le-mul h h
 
 pub metres-bound : (a b : ℕ) → a ≤ maxOffset → b ≤ maxOffset → metres (a * a + b * b) ≤ maxMetres
-metres-bound a b ha hb = either (decLe (metres (a * a + b * b)) maxMetres)
-  where
-    either : Dec (metres (a * a + b * b) ≤ maxMetres) → metres (a * a + b * b) ≤ maxMetres
-    either (yes below) = below
-    either (no above) =
-        let r : ℕ = metres (a * a + b * b) in
-        let h : maxMetres + 1 ≤ r = omega arith in
-        let s : (maxMetres + 1) * (maxMetres + 1) ≤ r * r = mul-le-mul h h in
-        absurd (omega (arith, metresAreLargest .holds (a * a + b * b) .fits, square-bounded a ha, square-bounded b hb))
+metres-bound a b ha hb =
+    no-larger (a * a + b * b) maxMetres _ (omega (arith, square-bounded a ha, square-bounded b hb)) (is-nearest (a * a + b * b) .notBefore)
 
 pub between-bound : (e n e′ n′ : ℕ) → e ≤ maxOffset → n ≤ maxOffset → e′ ≤ maxOffset → n′ ≤ maxOffset → metresBetween e n e′ n′ ≤ maxMetres
 unfolding metresBetween

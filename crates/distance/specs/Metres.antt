@@ -1,28 +1,34 @@
--- Whole metres between two points in centimetres, rounded down, and the law that says what they are.
-use Prim.Native.Nat.{ℕ, zero, suc, _+_, _-_, _*_, _/_, _≤_, min, max}
+-- The nearest whole metre between two points in centimetres, and the law that says what it is.
+use Prim.Native.Nat.{ℕ, zero, suc, _+_, _-_, _*_, _/_, _≤_, _<_, min, max}
 use mathlib.Core.Path.{_≡_}
 use mathlib.Core.Bool.{cond}
+use mathlib.Core.Logic.{_⊎_}
 use lib.Dec.{leb}
 
--- the largest whole m up to b with 10,000 times m squared at most q
+-- the squared distance half a metre beyond m metres, at 100m + 50 centimetres: from there on m + 1 is as near as m, or nearer
+unfoldable pub halfBeyond : ℕ → ℕ
+halfBeyond m = 2500 * ((2 * m + 1) * (2 * m + 1))
+
+-- the largest whole m up to b that is 0, or that q reaches: half a metre beyond m - 1 is at most q
 unfoldable pub largestUpTo : ℕ → ℕ → ℕ
+unfolding halfBeyond
 largestUpTo zero q = zero
-largestUpTo (suc b) q = cond (leb (10000 * (suc b * suc b)) q) (suc b) (largestUpTo b q)
+largestUpTo (suc b) q = cond (leb (halfBeyond b) q) (suc b) (largestUpTo b q)
 
--- whole metres of a squared distance q in square centimetres; no m above q / 10,000 comes into question
+-- whole metres of a squared distance q in square centimetres; no m above q / 2,500 comes into question
 unfoldable pub metres : ℕ → ℕ
-unfolding largestUpTo
-metres q = largestUpTo (q / 10000) q
+unfolding largestUpTo halfBeyond
+metres q = largestUpTo (q / 2500) q
 
--- m is "the largest whole m with 10,000 times m squared at most" q (document 01)
-pub record LargestWhole (q m : ℕ) : Type 0 where
-  pub fits : 10000 * (m * m) ≤ q
-  pub greatest : (k : ℕ) → 10000 * (k * k) ≤ q → k ≤ m
+-- m is "the nearest whole metre, a half going up" (document 02, wish 2): 100m - 50 is at most the distance, and 100m + 50 above it
+pub record Nearest (q m : ℕ) : Type 0 where
+  pub notBefore : (m ≡ 0) ⊎ (2500 * ((2 * m - 1) * (2 * m - 1)) ≤ q)
+  pub notNext : q < 2500 * ((2 * m + 1) * (2 * m + 1))
 
 -- `metres q` is that m, and no other is: callers rely on this and not on how the definition looks for it
-pub record MetresAreLargest : Type 0 where
-  pub holds : (q : ℕ) → LargestWhole q (metres q)
-  pub unique : (q m : ℕ) → LargestWhole q m → m ≡ metres q
+pub record MetresAreNearest : Type 0 where
+  pub holds : (q : ℕ) → Nearest q (metres q)
+  pub unique : (q m : ℕ) → Nearest q m → m ≡ metres q
 
 -- coordinates from -1,000,000 to 1,000,000 centimetres are counted from the lowest: the greatest of these offsets, and the most
 -- metres that two such points lie apart

@@ -30,7 +30,7 @@ class Printed(unittest.TestCase):
 
     def test_metres_from_the_chosen_place(self):
         # One place each, 3 m, then 4 m and 65,535 for a combination that cannot be avoided.
-        source = sheet([[(0, 0)], [(300, 0)], [(300, 499)]], [([(0, 0), (2, 0)], 65_535)])
+        source = sheet([[(0, 0)], [(300, 0)], [(300, 449)]], [([(0, 0), (2, 0)], 65_535)])
         self.prints(as_bytes(source), "PLAN", "COST 65542", "STEPS 0", "0 0 0", "1 0 3", "2 0 4")
 
     def test_one_variable(self):
@@ -98,7 +98,7 @@ class Chains(unittest.TestCase):
     def metres(here, there):
         square = (here[0] - there[0]) ** 2 + (here[1] - there[1]) ** 2
         found = 0
-        while 10_000 * (found + 1) ** 2 <= square:
+        while 2_500 * (2 * found + 1) ** 2 <= square:
             found += 1
         return found
 

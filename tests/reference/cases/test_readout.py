@@ -18,8 +18,8 @@ class Readout(unittest.TestCase):
         self.assertEqual(readout_call(SOURCE, [0, 0], 1, *HERE), (0, 5))
         self.assertEqual(readout_call(SOURCE, [0, 1], 1, *HERE), (0, 10))
         self.assertEqual(readout_call(SOURCE, [0, 1], 0, *HERE), (0, 0))
-        # From (-300,400) to (600,800): 900 and 400, the square 970,000 lies between 9 and 10 metres.
-        self.assertEqual(readout_call(SOURCE, [0, 1], 1, easting(-300), northing(400)), (0, 9))
+        # From (-300,400) to (600,800): 900 and 400, the square 970,000 lies between those of 9.5 and 10 metres.
+        self.assertEqual(readout_call(SOURCE, [0, 1], 1, easting(-300), northing(400)), (0, 10))
 
     def test_variable(self):
         for variable in [2, 3, 12, 2 ** 32]:

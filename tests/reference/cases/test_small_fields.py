@@ -78,15 +78,21 @@ class SmallFields(unittest.TestCase):
         self.assertEqual(step_call(nested), ("done", 0, 0, nested))
 
     def test_p8_root(self):
-        self.assertEqual(whole_metres(9_999), 0)
-        self.assertEqual(whole_metres(10_000), 1)
+        self.assertEqual(whole_metres(2_499), 0)
+        self.assertEqual(whole_metres(2_500), 1)
 
-    def test_roots_around_every_square(self):
-        self.assertEqual(whole_metres(0), 0)
-        for metres in range(1, 3_000):
-            self.assertEqual(whole_metres(10_000 * metres * metres), metres)
-            self.assertEqual(whole_metres(10_000 * metres * metres - 1), metres - 1)
+    def test_every_root_of_the_first_metres(self):
+        # A distance has come to so many metres as there are halves, 50 cm, 150 cm and so on, that it has reached.
+        halves = [half * half for half in range(50, 500, 100)]
+        for square in range(100_001):
+            self.assertEqual(whole_metres(square), sum(half <= square for half in halves))
+
+    def test_roots_around_every_half(self):
+        for metres in range(28_285):
+            half = 50 * (2 * metres + 1)
+            self.assertEqual([whole_metres(half * half + more) for more in (-1, 0, 1)], [metres, metres + 1, metres + 1])
+            self.assertEqual([whole_metres(10_000 * metres * metres + more) for more in (0, 1)], [metres, metres])
 
     def test_longest_distance(self):
-        # 8 * 10^12 / 10^4 is between 28,284 squared (799,984,656) and 28,285 squared (800,041,225).
+        # 8 * 10^12 lies between the squares of 28,284 m (7,999,846,560,000) and of half a metre more (8,000,129,402,500).
         self.assertEqual(distance((-1_000_000, -1_000_000), (1_000_000, 1_000_000)), 28_284)

@@ -4,8 +4,9 @@ from math import isqrt
 
 
 def whole_metres(square):
-    """The largest whole m with 10,000 times m squared at most the given sum of squares."""
-    return isqrt(square // 10_000)
+    """The whole metre nearest to a distance in centimetres whose square is given; a half goes up (document 02, wish 2)."""
+    passed = isqrt(square) // 100
+    return passed + 1 if square >= (100 * passed + 50) ** 2 else passed
 
 
 def distance(here, there):

@@ -1,9 +1,9 @@
--- `between` answers whole metres between two points: the root of the squared gaps, each gap at most the greatest offset, so that every number fits.
+-- `between` answers the nearest whole metre between two points: the root of the squared gaps, each gap at most the greatest offset, so that every number fits.
 use Prim.Native.Nat.{ℕ, _+_, _*_}
 use native.Mathlib.Omega.{arith}
 use mathlib.Core.Path.{_≡_, ap₂, _∙_}
 use borrow.Author.Needs.{needs}
-use Rattle.distance.specs.Metres.{metres, difference, metresBetween}
+use Rattle.distance.specs.Metres.{metres, Nearest, difference, squaredDistance, metresBetween}
 use Rattle.distance.proofs.Largest.{square-bounded, metres-bound}
 use Rattle.distance.proofs.between.Statement.{statement}
 use Rattle.distance.proofs.between.Tie as tie
@@ -11,6 +11,9 @@ use Rattle.distance.proofs.between.Tie as tie
 by-gaps : (e n e′ n′ a b r : ℕ) → a ≡ difference e e′ → b ≡ difference n n′ → r ≡ metres (a * a + b * b) → r ≡ metresBetween e n e′ n′
 unfolding metresBetween
 by-gaps e n e′ n′ a b r east north s = s ∙ ap₂ (λ (x y : ℕ). metres (x * x + y * y)) east north
+
+nearest-by-gaps : (e n e′ n′ a b r : ℕ) → a ≡ difference e e′ → b ≡ difference n n′ → Nearest (a * a + b * b) r → Nearest (squaredDistance e n e′ n′) r
+nearest-by-gaps e n e′ n′ a b r east north l = rw (east, north) at l
 
 mul-root : tie.Need-mul-root
 mul-root c = omega (arith, square-bounded (c .before .gap .result) (c .before .gap .ensures .1))
@@ -28,8 +31,9 @@ cast-result c =
 
 returns : tie.Need-returns
 returns c = (
-  by-gaps _ _ _ _ _ _ _ (c .before .before .gap .ensures .0) (c .before .gap2 .ensures .0) (c .root .ensures),
+  by-gaps _ _ _ _ _ _ _ (c .before .before .gap .ensures .0) (c .before .gap2 .ensures .0) (c .root .ensures .0),
   omega (arith, metres-bound (c .before .before .gap .result) (c .before .gap2 .result) (c .before .before .gap .ensures .1) (c .before .gap2 .ensures .1)),
+  nearest-by-gaps _ _ _ _ _ _ _ (c .before .before .gap .ensures .0) (c .before .gap2 .ensures .0) (c .root .ensures .1),
 )
 
 pub between-spec : {M : Type 1} → statement M
