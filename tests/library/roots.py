@@ -1,4 +1,5 @@
-"""The metres of squared distances by the proved root against the reference: all small squares, and those around every half metre."""
+"""The metres of squared distances by the proved root against the reference: all small squares, and those around
+every half and whole metre."""
 
 import ctypes
 

@@ -10,9 +10,9 @@ HERE = (0, 0)
 FAR = 1_000_000
 # Document 01's worked example.
 EXAMPLE = sheet([[(0, 0)], [(300, 400), (600, 800)]], [([(1, 0)], 9)])
-# From one place to a spot 1.50, 2 or 1.20 m away and back, the last at a cost of 1: 4, 4 and 3 by the nearest metre. Rounded down, the
-# first is best at 2; rounded up, the last is worst at 5.
-ROUNDED = sheet([[HERE], [(150, 0), (200, 0), (120, 0)], [HERE]], [([(1, 2)], 1)])
+# From one place to a spot 2.50, 3 or 2.20 m away and back, the last at a cost of 1: 6, 6 and 5 by the nearest metre. Rounded down, the
+# first is best at 4; rounded up, the last is worst at 7. Then 2.50 m to the end, which is printed.
+ROUNDED = sheet([[HERE], [(250, 0), (300, 0), (220, 0)], [HERE], [(250, 0)]], [([(1, 2)], 1)])
 
 
 def spread(seed, stations, spots, width, highest):

@@ -1,4 +1,4 @@
--- P1 to P8 of document 01: both sides of the claim are computed from the definitions, and are the same.
+-- P1 to P8: both sides of the claim are computed from the definitions, and are the same.
 use mathlib.Core.Path.{refl}
 use Rattle.wcsp.specs.Sign.{has, full, complement, within, present, lowest}
 use Rattle.wcsp.specs.Clause.{falsifies, tautology, same, bucket}

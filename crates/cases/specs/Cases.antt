@@ -1,4 +1,4 @@
--- The joint table of document 01's small fields P1 to P8: what is given, what document 01 says comes of it, and the claim that the definitions give just that. P1 to P7 are fields, P8 is a root: one table holds both.
+-- The joint table of document 01's small fields P1 to P8: what is given, what document 01 (of P8 document 02) says comes of it, and the claim that the definitions give just that. P1 to P7 are fields, P8 is a root: one table holds both.
 use Prim.Native.Nat.{ℕ, zero, suc}
 use mathlib.Core.Path.{_≡_}
 use mathlib.Core.List.{List, [], _∷_, map}
@@ -103,7 +103,7 @@ entryWith bs n = record { bindings = bs; cost = n }
 abbrev pub rowWith : List ℕ → ℕ → Row
 rowWith signs w = record { signs = signs; weight = w }
 
--- The values are document 01's; those that it leaves out are worked out by hand from its rules.
+-- The values are document 01's, of P8 document 02's; those that it leaves out are worked out by hand from its rules.
 unfoldable pub cases : List Case
 cases =
     -- P1: two values, costs 3 and 1

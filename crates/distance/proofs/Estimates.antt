@@ -43,7 +43,7 @@ again n x a h =
 square-at-most : (n x : ℕ) → 0 < x → x ≤ (x + n / x) / 2 → x * x ≤ n
 square-at-most n x h k = le-div-iff-mul-le h .0 (omega arith)
 
--- x whole half metres, with m the half of the next number: 2m - 1 ≤ x ≤ 2m
+-- x whole half metres, and m half of the next number, rounded down: 2m - 1 ≤ x ≤ 2m
 halved : (q n x m : ℕ) → n ≡ q / 2500 → x * x ≤ n → n < (x + 1) * (x + 1) → 0 < x → m ≡ (x + 1) / 2 → Nearest q m
 halved q n x m e low high p h =
     let below : (2 * m - 1) * (2 * m - 1) ≤ x * x = mul-le-mul (omega arith) (omega arith) in

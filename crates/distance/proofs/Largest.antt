@@ -5,28 +5,24 @@ use native.Mathlib.Omega.{arith}
 use native.Mathlib.Decide.{decLe}
 use mathlib.Core.Path.{_≡_, refl}
 use mathlib.Core.Bool.{Bool, true, false}
-use mathlib.Core.Logic.{_⊎_, inl, inr, ⊎-elim}
+use mathlib.Core.Logic.{inl, inr, ⊎-elim}
 use lib.Dec.{leb}
 use borrow.Author.Tests.{leb-true, leb-false}
-use Rattle.distance.specs.Metres.{halfBeyond, largestUpTo, metres, Nearest, MetresAreNearest, maxOffset, maxMetres, difference, metresBetween}
+use Rattle.distance.specs.Metres.{halfBeyond, largestUpTo, metres, HalfReached, Nearest, MetresAreNearest, maxOffset, maxMetres, difference, metresBetween}
 
 half-beyond : (m : ℕ) → halfBeyond m ≡ 2500 * ((2 * m + 1) * (2 * m + 1))
 unfolding halfBeyond
 half-beyond m = omega arith
 
--- the first half of the law, of m as it is looked for
-abbrev NotBefore : ℕ → ℕ → Type 0
-NotBefore q m = (m ≡ 0) ⊎ (2500 * ((2 * m - 1) * (2 * m - 1)) ≤ q)
-
-not-before : (b q : ℕ) → halfBeyond b ≤ q → NotBefore q (suc b)
+not-before : (b q : ℕ) → halfBeyond b ≤ q → HalfReached q (suc b)
 not-before b q h = let t : 2 * suc b - 1 ≡ 2 * b + 1 = omega arith in inr (rw t (omega (arith, half-beyond b)))
 
-up-to-not-before : (b q : ℕ) → NotBefore q (largestUpTo b q)
+up-to-not-before : (b q : ℕ) → HalfReached q (largestUpTo b q)
 unfolding largestUpTo
 up-to-not-before zero q = inl refl
 up-to-not-before (suc b) q = go (leb (halfBeyond b) q) refl (up-to-not-before b q)
   where
-    go : (t : Bool) → leb (halfBeyond b) q ≡ t → NotBefore q (largestUpTo b q) → NotBefore q (largestUpTo (suc b) q)
+    go : (t : Bool) → leb (halfBeyond b) q ≡ t → HalfReached q (largestUpTo b q) → HalfReached q (largestUpTo (suc b) q)
     go true e ih = rw e (not-before b q (leb-true (halfBeyond b) q e))
     go false e ih = rw e ih
 
@@ -49,8 +45,8 @@ not-next q = either (metres q) refl (decLe (halfBeyond (metres q)) q)
     either m e (no below) = omega (arith, half-beyond m)
 
 -- no number above one whose next is not reached is reached
-no-larger : (q m k : ℕ) → q < 2500 * ((2 * m + 1) * (2 * m + 1)) → NotBefore q k → k ≤ m
-no-larger q m k h r = ⊎-elim (λ none. omega arith) (λ reached. either reached (decLe k m)) r
+no-larger : (q m k : ℕ) → q < 2500 * ((2 * m + 1) * (2 * m + 1)) → HalfReached q k → k ≤ m
+no-larger q m k h r = ⊎-elim (λ none. omega arith) (λ reached. either (omega (arith, reached)) (decLe k m)) r
   where
     either : 2500 * ((2 * k - 1) * (2 * k - 1)) ≤ q → Dec (k ≤ m) → k ≤ m
     either reached (yes below) = below

@@ -20,12 +20,16 @@ unfoldable pub metres : ℕ → ℕ
 unfolding largestUpTo halfBeyond
 metres q = largestUpTo (q / 2500) q
 
+-- m is 0, or the half metre before it is reached: 100m - 50 is at most the distance
+abbrev pub HalfReached : ℕ → ℕ → Type 0
+HalfReached q m = (m ≡ 0) ⊎ (2500 * ((2 * m - 1) * (2 * m - 1)) ≤ q)
+
 -- m is "the nearest whole metre, a half going up" (document 02, wish 2): 100m - 50 is at most the distance, and 100m + 50 above it
 pub record Nearest (q m : ℕ) : Type 0 where
-  pub notBefore : (m ≡ 0) ⊎ (2500 * ((2 * m - 1) * (2 * m - 1)) ≤ q)
+  pub notBefore : HalfReached q m
   pub notNext : q < 2500 * ((2 * m + 1) * (2 * m + 1))
 
--- `metres q` is that m, and no other is: callers rely on this and not on how the definition looks for it
+-- `metres q` is that m, and no other is: a reader need believe this alone, and not how the definition looks for it
 pub record MetresAreNearest : Type 0 where
   pub holds : (q : ℕ) → Nearest q (metres q)
   pub unique : (q m : ℕ) → Nearest q m → m ≡ metres q

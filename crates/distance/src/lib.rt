@@ -4,7 +4,7 @@ ghost use Prim.Native.Nat.{_≤_, _*_, _+_, _<_};
 ghost use Rattle.distance.specs.Metres.{metres, Nearest, maxOffset, maxMetres, difference, squaredDistance, metresBetween};
 
 // The nearest whole metre of a squared distance in square centimetres. The estimates count half metres: each is at least the root, and the first
-// that does not fall is the root. Half of the next number is the nearest metre.
+// that does not fall is the root. Half of the next number, rounded down, is the nearest metre.
 pub fn root(q: u64) -> u64
     ensures { λ r. ⌜ (r ≡ metres q) × Nearest q r ⌝ }
 {

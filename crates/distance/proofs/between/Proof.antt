@@ -30,11 +30,14 @@ cast-result c =
     omega (arith, metres-bound (c .before .before .gap .result) (c .before .gap2 .result) (c .before .before .gap .ensures .1) (c .before .gap2 .ensures .1))
 
 returns : tie.Need-returns
-returns c = (
-  by-gaps _ _ _ _ _ _ _ (c .before .before .gap .ensures .0) (c .before .gap2 .ensures .0) (c .root .ensures .0),
-  omega (arith, metres-bound (c .before .before .gap .result) (c .before .gap2 .result) (c .before .before .gap .ensures .1) (c .before .gap2 .ensures .1)),
-  nearest-by-gaps _ _ _ _ _ _ _ (c .before .before .gap .ensures .0) (c .before .gap2 .ensures .0) (c .root .ensures .1),
-)
+returns c =
+    let a = c .before .before .before .args in
+    let east : c .before .before .gap .result ≡ difference (a .e) (a .e2) = omega (arith, c .before .before .gap .ensures .0) in
+    let north : c .before .gap2 .result ≡ difference (a .n) (a .n2) = omega (arith, c .before .gap2 .ensures .0) in (
+      by-gaps _ _ _ _ _ _ _ east north (c .root .ensures .0),
+      omega (arith, metres-bound (c .before .before .gap .result) (c .before .gap2 .result) (c .before .before .gap .ensures .1) (c .before .gap2 .ensures .1)),
+      nearest-by-gaps _ _ _ _ _ _ _ east north (c .root .ensures .1),
+    )
 
 pub between-spec : {M : Type 1} → statement M
 between-spec =
