@@ -1,5 +1,5 @@
-"""The metres of squared distances by the proved root against the reference: all small squares, and those around
-every half and whole metre."""
+"""The metres of numbers taken as squared distances, by the proved root against the reference: all small ones, and those around the
+squares of every half and whole metre."""
 
 import ctypes
 
@@ -11,7 +11,7 @@ ALL_TO = 100_000
 # The longest distance that two places can have, in metres.
 LONGEST = 28_284
 NEAR = range(-3, 4)
-# Squares that no two places have: as far as 64 bits go.
+# No two places lie so far apart; the root takes any number of 64 bits.
 GREATEST = (1 << 64) - 1
 
 _library = ctypes.CDLL(str(proved.SHARED.with_name("libroots.so")))

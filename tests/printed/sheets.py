@@ -11,7 +11,7 @@ FAR = 1_000_000
 # Document 01's worked example.
 EXAMPLE = sheet([[(0, 0)], [(300, 400), (600, 800)]], [([(1, 0)], 9)])
 # From one place to a spot 2.50, 3 or 2.20 m away and back, the last at a cost of 1: 6, 6 and 5 by the nearest metre. Rounded down, the
-# first is best at 4; rounded up, the last is worst at 7. Then 2.50 m to the end, which is printed.
+# first is best at 4; rounded up, the last is worst at 7. The last leg, 2.50 m, is in every plan, so that a half is printed.
 ROUNDED = sheet([[HERE], [(250, 0), (300, 0), (220, 0)], [HERE], [(250, 0)]], [([(1, 2)], 1)])
 
 

@@ -1,4 +1,4 @@
-"""Chosen inputs that random ones hardly meet: limits reached exactly, and two faults at once."""
+"""Chosen inputs that random ones hardly meet: limits and half metres reached exactly, and two faults at once."""
 
 import calls
 from reference import fields, words
@@ -58,5 +58,5 @@ def claim_calls():
 def distance_calls():
     """Distances just below, at and above half and whole metres."""
     sheet = fields.sheet([[(0, 0)]], [])
-    return [calls.readout(sheet, [0], 0, words.easting(50 * halves + more), words.northing(0))
-            for halves in (1, 2, 3, 4, 199, 200, 19_998, 19_999) for more in (-1, 0, 1)]
+    return [calls.readout(sheet, [0], 0, words.easting(50 * halves + more), words.northing(aside))
+            for halves in (1, 2, 3, 4, 199, 200, 19_998, 19_999) for more in (-1, 0, 1) for aside in (0, 1)]

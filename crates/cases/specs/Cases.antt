@@ -103,7 +103,7 @@ entryWith bs n = record { bindings = bs; cost = n }
 abbrev pub rowWith : List ℕ → ℕ → Row
 rowWith signs w = record { signs = signs; weight = w }
 
--- The values are document 01's, of P8 document 02's; those that it leaves out are worked out by hand from its rules.
+-- The values are document 01's, of P8 document 02's; those that 01 leaves out are worked out by hand from its rules.
 unfoldable pub cases : List Case
 cases =
     -- P1: two values, costs 3 and 1

@@ -44,7 +44,7 @@ not-next q = either (metres q) refl (decLe (halfBeyond (metres q)) q)
     either m e (yes passed) = absurd (omega (arith, e, up-to-greatest (q / 2500) q m (omega (arith, half-beyond m)) passed))
     either m e (no below) = omega (arith, half-beyond m)
 
--- no number above one whose next is not reached is reached
+-- where q does not reach m + 1, it reaches no number above m
 no-larger : (q m k : ℕ) → q < 2500 * ((2 * m + 1) * (2 * m + 1)) → HalfReached q k → k ≤ m
 no-larger q m k h r = ⊎-elim (λ none. omega arith) (λ reached. either (omega (arith, reached)) (decLe k m)) r
   where

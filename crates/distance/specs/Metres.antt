@@ -15,16 +15,18 @@ unfolding halfBeyond
 largestUpTo zero q = zero
 largestUpTo (suc b) q = cond (leb (halfBeyond b) q) (suc b) (largestUpTo b q)
 
--- whole metres of a squared distance q in square centimetres; no m above q / 2,500 comes into question
+-- the nearest whole metre of a squared distance q in square centimetres; no m above q / 2,500 comes into question
 unfoldable pub metres : ℕ → ℕ
 unfolding largestUpTo halfBeyond
 metres q = largestUpTo (q / 2500) q
 
--- m is 0, or the half metre before it is reached: 100m - 50 is at most the distance
+-- Of a distance in centimetres, q being its square: m is 0, or the half metre before m is reached, 100m - 50 being at most the distance. The square
+-- of 100m - 50 is 2,500(2m - 1)²
 abbrev pub HalfReached : ℕ → ℕ → Type 0
 HalfReached q m = (m ≡ 0) ⊎ (2500 * ((2 * m - 1) * (2 * m - 1)) ≤ q)
 
--- m is "the nearest whole metre, a half going up" (document 02, wish 2): 100m - 50 is at most the distance, and 100m + 50 above it
+-- m is "the nearest whole metre, a half going up" (document 02, wish 2): 100m - 50 is at most the distance, and 100m + 50, whose square is
+-- 2,500(2m + 1)², is above it
 pub record Nearest (q m : ℕ) : Type 0 where
   pub notBefore : HalfReached q m
   pub notNext : q < 2500 * ((2 * m + 1) * (2 * m + 1))

@@ -1,4 +1,4 @@
-// For the tests: the nearest whole metre of any squared distance. The public calls come only to sums of two squares.
+// For the tests: the nearest whole metre of any number taken as a squared distance. The public calls come only to sums of two squares.
 ghost use mathlib.Core.Path.{_≡_};
 ghost use Rattle.distance.specs.Metres.{metres};
 

@@ -82,7 +82,7 @@ class SmallFields(unittest.TestCase):
         self.assertEqual(whole_metres(2_500), 1)
 
     def test_every_root_of_the_first_metres(self):
-        # A distance has come to so many metres as there are halves, 50 cm, 150 cm and so on, that it has reached.
+        # A distance comes to as many metres as there are halves, 50 cm, 150 cm and so on, that it has reached.
         halves = [half * half for half in range(50, 500, 100)]
         for square in range(100_001):
             self.assertEqual(whole_metres(square), sum(half <= square for half in halves))

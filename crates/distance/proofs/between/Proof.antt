@@ -29,6 +29,7 @@ cast-result : tie.Need-cast-result
 cast-result c =
     omega (arith, metres-bound (c .before .before .gap .result) (c .before .gap2 .result) (c .before .before .gap .ensures .1) (c .before .gap2 .ensures .1))
 
+-- by arithmetic, so that a gap of other coordinates fails as a fact, and one with its ends exchanged is as good
 returns : tie.Need-returns
 returns c =
     let a = c .before .before .before .args in
