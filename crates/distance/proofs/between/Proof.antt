@@ -1,19 +1,18 @@
 -- `between` answers the nearest whole metre between two points: the root of the squared gaps, each gap at most the greatest offset, so that every number fits.
 use Prim.Native.Nat.{ℕ, _+_, _*_}
 use native.Mathlib.Omega.{arith}
-use mathlib.Core.Path.{_≡_, ap₂, _∙_}
+use mathlib.Core.Path.{_≡_}
 use borrow.Author.Needs.{needs}
 use Rattle.distance.specs.Metres.{metres, Nearest, difference, squaredDistance, metresBetween}
 use Rattle.distance.proofs.Largest.{square-bounded, metres-bound}
 use Rattle.distance.proofs.between.Statement.{statement}
 use Rattle.distance.proofs.between.Tie as tie
 
-by-gaps : (e n e′ n′ a b r : ℕ) → a ≡ difference e e′ → b ≡ difference n n′ → r ≡ metres (a * a + b * b) → r ≡ metresBetween e n e′ n′
+-- what the root says of the squared gaps, it says of the squared distance
+by-gaps : (e n e′ n′ a b r : ℕ) → a ≡ difference e e′ → b ≡ difference n n′ → (r ≡ metres (a * a + b * b)) × Nearest (a * a + b * b) r
+    → (r ≡ metresBetween e n e′ n′) × Nearest (squaredDistance e n e′ n′) r
 unfolding metresBetween
-by-gaps e n e′ n′ a b r east north s = s ∙ ap₂ (λ (x y : ℕ). metres (x * x + y * y)) east north
-
-nearest-by-gaps : (e n e′ n′ a b r : ℕ) → a ≡ difference e e′ → b ≡ difference n n′ → Nearest (a * a + b * b) r → Nearest (squaredDistance e n e′ n′) r
-nearest-by-gaps e n e′ n′ a b r east north l = rw (east, north) at l
+by-gaps e n e′ n′ a b r east north said = rw (east, north) at said
 
 mul-root : tie.Need-mul-root
 mul-root c = omega (arith, square-bounded (c .before .gap .result) (c .before .gap .ensures .1))
@@ -29,15 +28,16 @@ cast-result : tie.Need-cast-result
 cast-result c =
     omega (arith, metres-bound (c .before .before .gap .result) (c .before .gap2 .result) (c .before .before .gap .ensures .1) (c .before .gap2 .ensures .1))
 
--- by arithmetic, so that a gap of other coordinates fails as a fact, and one with its ends exchanged is as good
+-- the gaps by arithmetic, since one with its ends exchanged is as good
 returns : tie.Need-returns
 returns c =
     let a = c .before .before .before .args in
     let east : c .before .before .gap .result ≡ difference (a .e) (a .e2) = omega (arith, c .before .before .gap .ensures .0) in
-    let north : c .before .gap2 .result ≡ difference (a .n) (a .n2) = omega (arith, c .before .gap2 .ensures .0) in (
-      by-gaps _ _ _ _ _ _ _ east north (c .root .ensures .0),
+    let north : c .before .gap2 .result ≡ difference (a .n) (a .n2) = omega (arith, c .before .gap2 .ensures .0) in
+    let said = by-gaps _ _ _ _ _ _ _ east north (c .root .ensures) in (
+      said .0,
       omega (arith, metres-bound (c .before .before .gap .result) (c .before .gap2 .result) (c .before .before .gap .ensures .1) (c .before .gap2 .ensures .1)),
-      nearest-by-gaps _ _ _ _ _ _ _ east north (c .root .ensures .1),
+      said .1,
     )
 
 pub between-spec : {M : Type 1} → statement M
