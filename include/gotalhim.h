@@ -7,9 +7,9 @@
 
 /* The version of this interface. Another major version may change what is here; another minor one only adds to it. */
 #define GOTALHIM_VERSION_MAJOR 2
-#define GOTALHIM_VERSION_MINOR 0
+#define GOTALHIM_VERSION_MINOR 1
 #define GOTALHIM_VERSION_PATCH 0
-#define GOTALHIM_VERSION "2.0.0"
+#define GOTALHIM_VERSION "2.1.0"
 
 #ifdef __cplusplus
 extern "C" {
@@ -62,9 +62,10 @@ enum gotalhim_number {
                                        value out of range */
     GOTALHIM_BAD_TABLE = 9,         /* not a valid table */
     GOTALHIM_TARGET_TOO_SHORT = 10,
-    GOTALHIM_WEIGHT_TOO_HIGH = 11,  /* a weight would pass 268,435,455 */
+    GOTALHIM_WEIGHT_TOO_HIGH = 11,  /* a weight would pass 268,435,455, or the cost of a completion is above it */
     GOTALHIM_TABLE_FULL = 12,       /* the finished encoding or step would need more rows than there is room for */
-    GOTALHIM_PAIR_LEFT = 13         /* plan wanted while a pair is left */
+    GOTALHIM_PAIR_LEFT = 13,        /* plan or completion wanted while a pair is left */
+    GOTALHIM_BAD_FIXED = 14         /* k above n, not exactly n - k fixed values, or one out of range */
 };
 
 /* How a run ended, the first field of its answer. */
@@ -143,6 +144,21 @@ uint32_t gotalhim_run(uint32_t *table, size_t table_length,
  */
 uint32_t gotalhim_plan(const uint32_t *table, size_t table_length,
                        uint8_t *target, size_t target_length);
+
+/*
+ * Completes a plan of which the values of the variables from k to n - 1 are fixed, without new steps: rebuilds the values
+ * of the others from a table in which no pair is left. If the table comes from the encoding of an accepted instance by any
+ * list of step calls, runs and plan calls, no plan with these fixed values costs less, its cost is the answer, and 11 does
+ * not occur. With k = n no value is fixed: the plan is that of gotalhim_plan, and the cost is the bound.
+ * Tests, in this order: 9; 10 if the target is shorter than n bytes; 14; 13; 11.
+ * Answer: the cost, which is the weight of the rows without variables below k that the fixed values falsify.
+ * Memory: all n bytes of the plan in front of the target, the fixed ones as given, the rest kept.
+ */
+uint32_t gotalhim_complete(const uint32_t *table, size_t table_length,
+                           size_t k,
+                           const uint8_t *fixed, size_t fixed_length,
+                           uint8_t *target, size_t target_length,
+                           uint64_t *answer, size_t answer_length);
 
 /*
  * Encodes an instance as gotalhim_encode does, and then makes the calls of a list of words, one after the other. A call

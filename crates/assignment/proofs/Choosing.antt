@@ -1,25 +1,27 @@
 -- The rebuilding turn by turn, over rows with no pair left. The values chosen so far, followed by a 0 for each variable that the table lacks, are what
 -- the rest is rebuilt over; the clause carries them, and they stand in the target before what it held behind the last variable.
-use Prim.Native.Nat.{ℕ, zero, suc, _+_, _^_, _<_}
+use Prim.Native.Nat.{ℕ, zero, suc, _+_, _^_, _<_, _≤_}
 use native.Mathlib.Omega.{arith}
 use mathlib.Core.Path.{_≡_, refl, sym, ap, ap₂, _∙_}
 use mathlib.Core.List.{List, [], _∷_, _++_}
 use mathlib.Core.Option.{none}
-use lib.ListN.{length, getD, take, drop, set, replicate, length-append, length-replicate, length-set, replicate-append-replicate}
-use lib.Seq.{drop-cons, drop-set-lt, getD-set-same, take-at}
+use lib.ListN.{length, getD, take, drop, set, replicate, length-append, length-replicate, length-set, length-drop}
+use lib.Seq.{drop-append-le, drop-cons, drop-set-lt, getD-set-same, take-at}
 use lib.Count.{trailingZeros}
 use Rattle.wcsp.specs.Sign.{full, lowest}
 use Rattle.wcsp.specs.Clause.{InRange, cons, AllPositive}
 use Rattle.wcsp.specs.Row.{Row, ValidRows}
 use Rattle.wcsp.specs.Resolve.{nextPair}
-use Rattle.wcsp.specs.Rebuild.{narrowed, rebuiltValue, rebuiltOver, rebuilt}
+use Rattle.wcsp.specs.Rebuild.{narrowed, rebuiltValue, rebuiltOver}
+use Rattle.wcsp.proofs.Lists.{along-length}
+use Rattle.wcsp.proofs.WideningTables.{wideInRange}
 use Rattle.wcsp.proofs.Rebuilding.{value-in-range}
 use Rattle.fields.specs.Entries.{EachSize}
 use Rattle.fields.proofs.Sizes.{each-positive}
 use Rattle.fields.proofs.Padding.{sizes-at}
 use Rattle.assignment.specs.Chosen.{singles, Carries}
 use Rattle.assignment.proofs.Lowest.{trailing-lowest}
-use Rattle.assignment.proofs.Lacking.{narrowed-zeros, zeros-in-range, rebuilt-below}
+use Rattle.assignment.proofs.Lacking.{narrowed-zeros}
 
 -- these sizes, and m variables of one value behind them
 abbrev pub lengthened : List ℕ → ℕ → List ℕ
@@ -31,17 +33,17 @@ pub record Settled (ds : List ℕ) (m : ℕ) (rs : List Row) : Type 0 where
   pub valid : ValidRows (lengthened ds m) rs
   pub done : nextPair (lengthened ds m) rs ≡ none
 
--- what was chosen from variable k on
-pub record Chosen (ds : List ℕ) (m : ℕ) (rs : List Row) (target₀ : List ℕ) (k : ℕ) (signs target : List ℕ) : Type 0 where
+-- what was chosen from variable k on, where values were given from another on
+pub record Chosen (ds : List ℕ) (m : ℕ) (rs : List Row) (from : ℕ) (given target₀ : List ℕ) (k : ℕ) (signs target : List ℕ) : Type 0 where
   pub values : List ℕ
   pub counted : k + length values ≡ length ds
   pub carried : signs ≡ replicate k 0 ++ (singles values ++ replicate m 0)
-  pub same : rebuilt (lengthened ds m) rs ≡ rebuiltOver (lengthened ds m) rs k (values ++ replicate m 0)
+  pub same : rebuiltOver (lengthened ds m) rs from (given ++ replicate m 0) ≡ rebuiltOver (lengthened ds m) rs k (values ++ replicate m 0)
   pub inRange : InRange (drop k (lengthened ds m)) (values ++ replicate m 0)
   pub written : drop k target ≡ values ++ drop (length ds) target₀
   pub long : length target ≡ length target₀
 
-set-below : (k a : ℕ) (l : List ℕ) → set (replicate (suc k) 0 ++ l) k a ≡ replicate k 0 ++ (a ∷ l)
+pub set-below : (k a : ℕ) (l : List ℕ) → set (replicate (suc k) 0 ++ l) k a ≡ replicate k 0 ++ (a ∷ l)
 set-below zero a l = refl
 set-below (suc k) a l = ap (λ xs. 0 ∷ xs) (set-below k a l)
 
@@ -58,21 +60,23 @@ module _ (ds : List ℕ) (m : ℕ) (rs : List Row) (settled : Settled ds m rs) w
   positive : AllPositive (lengthened ds m)
   positive = each-positive (settled .sizes)
 
-  -- nothing is chosen yet
-  pub none-chosen : (signs target : List ℕ) → signs ≡ replicate (length ds + m) 0 → Chosen ds m rs target (length ds) signs target
-  none-chosen signs target e =
+  -- the given values alone
+  pub given-chosen : (k : ℕ) (given signs target : List ℕ) → k ≤ length ds → InRange (drop k ds) given
+      → signs ≡ replicate k 0 ++ (singles given ++ replicate m 0) → drop k target ≡ given ++ drop (length ds) target
+      → Chosen ds m rs k given target k signs target
+  given-chosen k given signs target l r e w =
       record {
-        values = [];
-        counted = omega arith;
-        carried = e ∙ sym (replicate-append-replicate (length ds) m 0);
-        same = rebuilt-below ds m rs positive (settled .valid) (settled .done);
-        inRange = zeros-in-range positive (length ds) m (sym whole);
-        written = refl;
+        values = given;
+        counted = omega (arith, along-length r, length-drop k ds);
+        carried = e;
+        same = refl;
+        inRange = rw (drop-append-le k ds (replicate m 1) l) (wideInRange m (drop k ds) given .0 r);
+        written = w;
         long = refl;
       }
 
   -- the turn at variable k: S is what is left of its full sign
-  module _ (target₀ : List ℕ) (k : ℕ) (signs target : List ℕ) (h : Chosen ds m rs target₀ (suc k) signs target) (F S : ℕ)
+  module _ (from : ℕ) (given target₀ : List ℕ) (k : ℕ) (signs target : List ℕ) (h : Chosen ds m rs from given target₀ (suc k) signs target) (F S : ℕ)
       (f : F ≡ full (getD (lengthened ds m) k 0)) (answer : (q : List ℕ) → Carries signs (suc k) q → S ≡ narrowed k q F rs) where
     abbrev above : List ℕ
     above = h .values ++ replicate m 0
@@ -103,7 +107,7 @@ module _ (ds : List ℕ) (m : ℕ) (rs : List Row) (settled : Settled ds m rs) w
     pub value-small : trailingZeros 32 S < 8
     value-small = omega (arith, by-zeros, in-range, sizes-at (settled .sizes) k)
 
-    pub one-more : k < length target → Chosen ds m rs target₀ k (set signs k (2 ^ trailingZeros 32 S)) (set target k (trailingZeros 32 S))
+    pub one-more : k < length target → Chosen ds m rs from given target₀ k (set signs k (2 ^ trailingZeros 32 S)) (set target k (trailingZeros 32 S))
     unfolding rebuiltOver
     one-more r =
         let b : trailingZeros 32 S < getD (lengthened ds m) k 0 = omega (arith, by-zeros, in-range) in
@@ -120,11 +124,14 @@ module _ (ds : List ℕ) (m : ℕ) (rs : List Row) (settled : Settled ds m rs) w
         }
 
 -- all are chosen
-pub all-chosen : (ds : List ℕ) (m : ℕ) (rs : List Row) (target₀ signs target : List ℕ) → Chosen ds m rs target₀ 0 signs target
-    → target ≡ take (length ds) (rebuilt (lengthened ds m) rs) ++ drop (length ds) target₀
+over-none : (ds : List ℕ) (rs : List Row) (q : List ℕ) → rebuiltOver ds rs 0 q ≡ q
 unfolding rebuiltOver
-all-chosen ds m rs target₀ signs target h =
+over-none ds rs q = refl
+
+pub all-chosen : (ds : List ℕ) (m : ℕ) (rs : List Row) (from : ℕ) (given target₀ signs target : List ℕ) → Chosen ds m rs from given target₀ 0 signs target
+    → target ≡ take (length ds) (rebuiltOver (lengthened ds m) rs from (given ++ replicate m 0)) ++ drop (length ds) target₀
+all-chosen ds m rs from given target₀ signs target h =
     let n : length (h .values) ≡ length ds = omega (arith, h .counted) in
-    let e : take (length ds) (rebuilt (lengthened ds m) rs) ≡ h .values
-    = ap (λ l. take (length ds) l) (h .same) ∙ take-at (h .values) (replicate m 0) (length ds) n in
+    let e : take (length ds) (rebuiltOver (lengthened ds m) rs from (given ++ replicate m 0)) ≡ h .values
+    = ap (λ l. take (length ds) l) (h .same ∙ over-none (lengthened ds m) rs (h .values ++ replicate m 0)) ∙ take-at (h .values) (replicate m 0) (length ds) n in
     h .written ∙ ap (λ l. l ++ drop (length ds) target₀) (sym e)

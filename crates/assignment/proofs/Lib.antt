@@ -5,5 +5,6 @@ pub mod Narrowing
 pub mod Lacking
 pub mod Choosing
 pub mod Tables
+pub mod Hunting
 pub mod Planning
 pub mod Order

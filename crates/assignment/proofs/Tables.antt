@@ -4,12 +4,14 @@ use native.Mathlib.Omega.{arith}
 use mathlib.Core.Path.{_≡_, sym, ap, ap₂, _∙_}
 use mathlib.Core.Bool.{true}
 use mathlib.Core.List.{List, _++_}
-use lib.ListN.{length, getD, drop, set, replicate, List·getD-map}
+use lib.ListN.{length, getD, take, drop, set, take-append-drop, length-take, length-drop, List·getD-map}
+use lib.Seq.{slice, drop-append-le}
 use lib.Count.{trailingZeros}
 use lib.Pow.{pow-mono}
 use Rattle.wcsp.specs.Sign.{full}
 use Rattle.wcsp.specs.Row.{ValidRows}
 use Rattle.wcsp.specs.Rebuild.{narrowed}
+use Rattle.wcsp.proofs.Lists.{along-length}
 use Rattle.clause.specs.declared.Clause.{Clause}
 use Rattle.clause.specs.Packed.{signsOf, FitsBlocks, Holds, FullSigns}
 use Rattle.fields.specs.Padding.{padded, lacking}
@@ -21,16 +23,16 @@ use Rattle.table.specs.Valid.{validTable}
 use Rattle.table.specs.Check.{shapeOf}
 use Rattle.table.proofs.Twelve.{full-signs-padded, full-packed-padded}
 use Rattle.table.proofs.Canonical.{passed, twelveIsCanonical}
-use Rattle.table.proofs.Own.{own-widens}
+use Rattle.table.proofs.Own.{own-widens, own-next}
 use Rattle.table.proofs.Finishing.{valid-variables, valid-room}
-use Rattle.assignment.specs.Calls.{tableAssignment}
+use Rattle.assignment.specs.Calls.{tableCompletion}
 use Rattle.assignment.specs.Chosen.{Carries, Ready}
-use Rattle.assignment.proofs.Choosing.{Settled, Chosen, none-chosen, value-small, one-more, all-chosen}
+use Rattle.assignment.proofs.Choosing.{Settled, Chosen, given-chosen, value-small, one-more, all-chosen}
 
 -- ---- what a valid table says
 
 module _ (t : List ℕ) (v : validTable t ≡ true) where
-  few-sizes : length (tableSizes t) ≤ 12
+  pub few-sizes : length (tableSizes t) ≤ 12
   few-sizes = omega (arith, valid-variables t v, passed t v .few)
 
   pub rows-valid : ValidRows (domains t) (tableRows t)
@@ -61,35 +63,46 @@ module _ (t : List ℕ) (v : validTable t ≡ true) where
 
 -- ---- the turns
 
--- the values chosen from variable k on
-pub record Rebuilding (t target₀ target : List ℕ) (chosen : Clause) (k : ℕ) : Type 0 where
+-- the values chosen from variable k on, where those from another on stood in the target
+pub record Rebuilding (t : List ℕ) (from : ℕ) (target₀ target : List ℕ) (chosen : Clause) (k : ℕ) : Type 0 where
   pub packed : FitsBlocks chosen
-  pub so-far : Chosen (tableSizes t) (lacking (tableSizes t)) (tableRows t) target₀ k (signsOf chosen) target
+  pub so-far : Chosen (tableSizes t) (lacking (tableSizes t)) (tableRows t) from (slice from (variablesOf t) target₀) target₀ k (signsOf chosen) target
 
-module _ (t : List ℕ) (shape : Shape) (target₀ : List ℕ) (ready : Ready t shape target₀) where
+-- a target is its first n bytes and the rest, so from k on it is the values there and the rest
+values-stand : (n k : ℕ) (target : List ℕ) → n ≤ length target → k ≤ n → drop k target ≡ slice k n target ++ drop n target
+values-stand n k target r l =
+    ap (drop k) (sym (take-append-drop n target))
+    ∙ drop-append-le k (take n target) (drop n target) (omega (arith, length-take n target))
+
+module _ (t : List ℕ) (shape : Shape) (from : ℕ) (given : Clause) (target₀ : List ℕ) (ready : Ready t shape from given target₀) where
+  abbrev values : List ℕ
+  values = slice from (variablesOf t) target₀
+
   settled : Settled (tableSizes t) (lacking (tableSizes t)) (tableRows t)
   unfolding domains padded
   settled =
       record {
         sizes = sizes-padded (twelveIsCanonical t (ready .valid) .holdable .sizes);
         valid = rows-valid t (ready .valid);
-        done = ready .done;
+        done = own-next t (ready .valid) ∙ ready .done;
       }
 
-  pub start : (chosen : Clause) → Holds chosen (replicate 12 0) → Rebuilding t target₀ target₀ chosen (shape .variables)
-  start chosen h =
-      let n : length (tableSizes t) + lacking (tableSizes t) ≡ 12 = omega (arith, few-sizes t (ready .valid)) in
-      let e : length (tableSizes t) ≡ shape .variables = valid-variables t (ready .valid) ∙ sym (variables-are t (ready .valid) shape (ready .shaped)) in
-      rw (← e)
-      (record {
-        packed = h .packed;
-        so-far = none-chosen (tableSizes t) (lacking (tableSizes t)) (tableRows t) settled (signsOf chosen) target₀
-            (h .signsAre ∙ ap (λ i. replicate i 0) (sym n));
-      })
+  low : from ≤ length (tableSizes t)
+  low = omega (arith, valid-variables t (ready .valid), ready .few)
+
+  pub start : Rebuilding t from target₀ target₀ given from
+  start =
+      record {
+        packed = ready .carried .packed;
+        so-far = given-chosen (tableSizes t) (lacking (tableSizes t)) (tableRows t) settled from values (signsOf given) target₀ low (ready .inRange)
+            (ready .carried .signsAre)
+            (values-stand (variablesOf t) from target₀ (ready .room) (ready .few)
+            ∙ ap (λ n. values ++ drop n target₀) (sym (valid-variables t (ready .valid))));
+      }
 
   -- the turn at variable k
-  module _ (target : List ℕ) (chosen : Clause) (j k : ℕ) (e : j ≡ suc k) (r : Rebuilding t target₀ target chosen j) where
-    before : Chosen (tableSizes t) (lacking (tableSizes t)) (tableRows t) target₀ (suc k) (signsOf chosen) target
+  module _ (target : List ℕ) (chosen : Clause) (j k : ℕ) (e : j ≡ suc k) (r : Rebuilding t from target₀ target chosen j) where
+    before : Chosen (tableSizes t) (lacking (tableSizes t)) (tableRows t) from values target₀ (suc k) (signsOf chosen) target
     before = rw e at (r .so-far)
 
     pub variable-low : k < 12
@@ -113,7 +126,8 @@ module _ (t : List ℕ) (shape : Shape) (target₀ : List ℕ) (ready : Ready t 
       pub value-bound : trailingZeros 32 S < 8
       unfolding domains padded
       value-bound =
-          value-small (tableSizes t) (lacking (tableSizes t)) (tableRows t) settled target₀ k (signsOf chosen) target before F S full-here narrowed-here
+          value-small (tableSizes t) (lacking (tableSizes t)) (tableRows t) settled from values target₀ k (signsOf chosen) target before F S full-here
+          narrowed-here
 
       bits : 2 ^ trailingZeros 32 S ≤ 128
       bits = let b = value-bound in pow-mono {i = trailingZeros 32 S} {j = 7} (omega arith)
@@ -125,19 +139,22 @@ module _ (t : List ℕ) (shape : Shape) (target₀ : List ℕ) (ready : Ready t 
       bit-small = omega (arith, shifted, bits)
 
       pub again : (next : Clause) → Holds next (set (signsOf chosen) k (1 * 2 ^ trailingZeros 32 S % 4294967296))
-          → Rebuilding t target₀ (set target k (trailingZeros 32 S)) next k
+          → Rebuilding t from target₀ (set target k (trailingZeros 32 S)) next k
       unfolding domains padded
       again next h =
           record {
             packed = h .packed;
             so-far = rw (h .signsAre, shifted)
-                (one-more (tableSizes t) (lacking (tableSizes t)) (tableRows t) settled target₀ k (signsOf chosen) target before F S full-here narrowed-here
-                place-within);
+                (one-more (tableSizes t) (lacking (tableSizes t)) (tableRows t) settled from values target₀ k (signsOf chosen) target before F S full-here
+                narrowed-here place-within);
           }
 
-  pub finished : (target : List ℕ) (chosen : Clause) (k : ℕ) → k ≡ 0 → Rebuilding t target₀ target chosen k
-      → target ≡ tableAssignment t ++ drop (variablesOf t) target₀
-  unfolding tableAssignment domains padded
+  pub finished : (target : List ℕ) (chosen : Clause) (k : ℕ) → k ≡ 0 → Rebuilding t from target₀ target chosen k
+      → target ≡ tableCompletion t from values ++ drop (variablesOf t) target₀
+  unfolding tableCompletion domains padded
   finished target chosen k e r =
-      all-chosen (tableSizes t) (lacking (tableSizes t)) (tableRows t) target₀ (signsOf chosen) target (rw e at (r .so-far))
-      ∙ ap₂ (λ p n. p ++ drop n target₀) (own-widens t (ready .valid) .ownAssignment) (valid-variables t (ready .valid))
+      all-chosen (tableSizes t) (lacking (tableSizes t)) (tableRows t) from values target₀ (signsOf chosen) target (rw e at (r .so-far))
+      ∙ ap₂ (λ p n. p ++ drop n target₀) (own-widens t (ready .valid) .ownCompleted from values counted) (valid-variables t (ready .valid))
+    where
+      counted : from + length values ≡ length (tableSizes t)
+      counted = omega (arith, low, along-length (ready .inRange), length-drop from (tableSizes t))

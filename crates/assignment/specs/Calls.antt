@@ -6,7 +6,7 @@ use mathlib.Core.Option.{Option, none, some}
 use lib.ListN.{length, drop}
 use lib.Dec.{ltb}
 use Rattle.wcsp.specs.Resolve.{Pair, nextPair}
-use Rattle.wcsp.specs.Rebuild.{rebuilt}
+use Rattle.wcsp.specs.Rebuild.{rebuilt, rebuiltOver}
 use Rattle.table.specs.Meaning.{variablesOf, tableSizes, ownRows}
 use Rattle.table.specs.Valid.{validTable}
 
@@ -18,6 +18,10 @@ pub record PlanReturned : Type 0 where
 -- the rebuilt assignment (document 01: plan) of a table's variables
 unfoldable pub tableAssignment : List ℕ → List ℕ
 tableAssignment t = rebuilt (tableSizes t) (ownRows t)
+
+-- the rebuilt assignment of a table's variables over the values q of those from k on (document 02: completion)
+unfoldable pub tableCompletion : List ℕ → ℕ → List ℕ → List ℕ
+tableCompletion t k q = rebuiltOver (tableSizes t) (ownRows t) k q
 
 -- 13 while a pair remains
 unfoldable pub planOn : List ℕ → List ℕ → Option Pair → PlanReturned

@@ -1,13 +1,18 @@
 // The plan call: the rebuilt assignment of a table in which no pair is left.
 ghost use mathlib.Core.Path.{_≡_};
+ghost use mathlib.Core.Bool.{true};
 ghost use mathlib.Core.List.{List, _++_};
 ghost use Prim.Native.Nat.{ℕ, suc, _+_, _*_, _<_, _≤_};
 ghost use lib.ListN.{length, drop};
+ghost use lib.Seq.{slice};
 ghost use Rattle.wcsp.specs.Rebuild.{narrowed};
 ghost use Rattle.clause.specs.Packed.{signsOf};
 ghost use Rattle.rows.specs.Raw.{rowWidth};
 ghost use Rattle.table.specs.Meaning.{variablesOf, rowsFrom};
-ghost use Rattle.assignment.specs.Calls.{tableAssignment, planCall};
+ghost use Rattle.table.specs.Valid.{validTable};
+ghost use Rattle.table.specs.Check.{shapeOf};
+ghost use Rattle.assignment.specs.Calls.{tableCompletion, planCall};
+ghost use Rattle.assignment.specs.Order.{isLeft, tablePair};
 ghost use Rattle.assignment.specs.Chosen.{disjoint, Carries, Ready};
 use clause::Clause;
 use hunt::Hunted;
@@ -15,7 +20,7 @@ use table::Checked;
 use table::Shape;
 
 // The two clauses have no value in common at any variable.
-fn apart(x: Clause, y: Clause) -> bool
+pub fn apart(x: Clause, y: Clause) -> bool
     ensures { λ r. ⌜ r ≡ disjoint (signsOf x) (signsOf y) ⌝ }
 {
     if x.a & y.a != 0 {
@@ -47,23 +52,36 @@ fn narrow(t: &[u32], base: usize, count: usize, k: u32, chosen: Clause, full: u3
     sign
 }
 
-// The values from the last variable down: the lowest that lies in every sign that counts. A clause carries the chosen values' bits.
-fn rebuild(t: &[u32], shape: Shape, target: &mut [u8])
-    requires { ⌜ Ready (now t) shape (now target) ⌝ }
-    ensures { λ r. ⌜ now (target .exit) ≡ tableAssignment (now (t .entry)) ++ drop (variablesOf (now (t .entry))) (now (target .entry)) ⌝ }
+// The values below k, from k - 1 down: the lowest that lies in every sign that counts. A clause carries the chosen values' bits, first those of the
+// values from k on, which stand in the target.
+pub fn rebuild(t: &[u32], shape: Shape, k: usize, given: Clause, target: &mut [u8])
+    requires { ⌜ Ready (now t) shape k given (now target) ⌝ }
+    ensures { λ r. ⌜ (let n = variablesOf (now (t .entry)) in now (target .exit) ≡ tableCompletion (now (t .entry)) k (slice k n (now (target .entry))) ++ drop n (now (target .entry))) ⌝ }
 {
     let base = shape.variables + 2;
     let count = shape.count;
     let fulls = shape.fulls;
-    let mut chosen = Clause::empty();
-    let mut k = shape.variables;
-    while 0 < k {
-        k -= 1;
-        let v = k as u32;
+    let mut chosen = given;
+    let mut i = k;
+    while 0 < i {
+        i -= 1;
+        let v = i as u32;
         let sign = narrow(t, base, count, v, chosen, fulls.sign(v));
         let value = u32::trailing_zeros(sign);
-        target[k] = value as u8;
+        target[i] = value as u8;
         chosen = chosen.replaced(v, 1u32 << value);
+    }
+}
+
+// A pair is left in a valid table of this shape.
+pub fn pair_left(t: &[u32], shape: Shape) -> bool
+    requires { ⌜ (validTable (now t) ≡ true) × (shape ≡ shapeOf (now t)) ⌝ }
+    ensures { λ r. ⌜ r ≡ isLeft (tablePair (now (t .entry))) ⌝ }
+{
+    let found = hunt::hunt(t, shape.variables + 2, shape.count, 0, 0, 0, shape.fulls);
+    match found {
+        Hunted::Next(_, _, _) => true,
+        Hunted::Nothing => false,
     }
 }
 
@@ -79,10 +97,9 @@ pub fn plan(t: &[u32], target: &mut [u8]) -> u32
     if target.len() < n {
         return 10;
     }
-    let found = hunt::hunt(t, n + 2, shape.count, 0, 0, 0, shape.fulls);
-    if let Hunted::Next(_, _, _) = found {
+    if pair_left(t, shape) {
         return 13;
     }
-    rebuild(t, shape, target);
+    rebuild(t, shape, n, Clause::empty(), target);
     0
 }

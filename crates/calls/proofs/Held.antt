@@ -1,20 +1,30 @@
--- A slice that holds sizes and rows as a table: what it reads as, and what the step and the plan call come to on its rows.
+-- A slice that holds sizes and rows as a table: what it reads as, and what the step, the plan and the complete call come to on its rows.
 use Prim.Native.Nat.{ℕ, _≤_, _<_, min}
-use mathlib.Core.Path.{_≡_, ap₂}
+use mathlib.Core.Path.{_≡_, ap, ap₂, _∙_}
+use mathlib.Core.Bool.{true, false}
 use mathlib.Core.List.{List, [], _++_}
 use mathlib.Core.Option.{Option, none, some}
 use lib.ListN.{length, drop}
+use lib.Dec.{ltb}
 use borrow.Author.Tests.{lt-ltb, le-ltb}
+use Rattle.wcsp.specs.Clause.{InRange}
 use Rattle.wcsp.specs.Row.{Row}
 use Rattle.wcsp.specs.Resolve.{Pair, nextPair}
-use Rattle.wcsp.specs.Rebuild.{rebuilt}
+use Rattle.wcsp.specs.Rebuild.{rebuilt, rebuiltOver, tailWeight}
+use Rattle.fields.specs.Answers.{good}
+use Rattle.rows.specs.Raw.{maxWeight}
 use Rattle.table.specs.Layout.{capacity, tableWords}
+use Rattle.table.specs.Meaning.{tableSizes}
 use Rattle.table.proofs.Own.{Held}
 use Rattle.stepping.specs.Step.{withRows}
 use Rattle.resolution.specs.Step.{oneStep}
 use Rattle.resolution.specs.Run.{runRows}
 use Rattle.resolution.specs.Calls.{stepReturns, stepCall, runReturns, runCall}
-use Rattle.assignment.specs.Calls.{tableAssignment, planOn, planCall}
+use Rattle.assignment.specs.Order.{tablePair}
+use Rattle.assignment.specs.Calls.{tableAssignment, tableCompletion, planOn, planCall}
+use Rattle.completion.specs.Calls.{fixedFit, completionCost, completeOn, completeCall}
+use Rattle.completion.proofs.Fitting.{fits-of}
+use Rattle.completion.proofs.Completing.{call-on, on-good}
 
 module _ {t : List ℕ} {len : ℕ} {ds : List ℕ} {rs : List Row} (h : Held t len ds rs) where
   pub held-rows : (rs′ : List Row) → withRows t rs′ ≡ tableWords len ds rs′
@@ -51,3 +61,24 @@ module _ {t : List ℕ} {len : ℕ} {ds : List ℕ} {rs : List Row} (h : Held t 
       → planCall t target ≡ record { number = 0; target = rebuilt ds rs ++ drop (length ds) target }
   unfolding planOn
   plan-written target l e = rw (plan-room target none l e, h .variables, held-assignment)
+
+  -- what a completion comes to in the table's words
+  held-cost : (k : ℕ) (q : List ℕ) → completionCost t k q ≡ tailWeight k q rs
+  unfolding completionCost
+  held-cost k q = rw (h .rows)
+
+  held-completion : (k : ℕ) (q : List ℕ) → tableCompletion t k q ≡ rebuiltOver ds rs k q
+  unfolding tableCompletion
+  held-completion k q = rw (h .sizes, h .rows)
+
+  pub complete-written : (k : ℕ) (fixed target : List ℕ) → length ds ≤ length target → k ≤ length ds → InRange (drop k ds) fixed
+      → nextPair ds rs ≡ none → tailWeight k fixed rs ≤ maxWeight
+      → completeCall t k fixed target ≡ record { answer = good (tailWeight k fixed rs); target = rebuiltOver ds rs k fixed ++ drop (length ds) target }
+  complete-written k fixed target l low r e light =
+      let fit : fixedFit (tableSizes t) k fixed ≡ true = rw (h .sizes) (fits-of ds k fixed low r) in
+      let done : tablePair t ≡ none = rw (h .sizes, h .rows) e in
+      let small : ltb maxWeight (completionCost t k fixed) ≡ false = rw (held-cost k fixed) (le-ltb maxWeight (tailWeight k fixed rs) light) in
+      call-on t k fixed target (h .valid) (rw (h .variables) l) fit
+      ∙ ap (completeOn t k fixed target) done
+      ∙ on-good t k fixed target small
+      ∙ rw (held-cost k fixed, held-completion k fixed, h .variables)

@@ -4,24 +4,30 @@ use native.Mathlib.Omega.{arith}
 use mathlib.Core.Path.{_≡_, refl, sym, ap, _∙_}
 use mathlib.Core.Logic.{_⊎_, inl, inr, _↔_}
 use mathlib.Core.Bool.{Bool, true, false, cond}
-use mathlib.Core.List.{List, [], _∷_}
+use mathlib.Core.List.{List, [], _∷_, _++_}
 use mathlib.Core.Option.{Option, none, some}
-use lib.ListN.{length}
+use lib.ListN.{length, drop}
 use lib.Dec.{ltb}
 use borrow.Author.Tests.{lt-ltb, le-ltb}
+use Rattle.wcsp.specs.Clause.{InRange}
 use Rattle.wcsp.specs.Row.{Row, emptyWeight}
 use Rattle.wcsp.specs.Entry.{Entry}
 use Rattle.wcsp.specs.Resolve.{Pair, nextPair, resolve}
-use Rattle.wcsp.specs.Rebuild.{rebuilt}
-use Rattle.wcsp.specs.Theorems.{Optimal}
+use Rattle.wcsp.specs.Rebuild.{rebuilt, rebuiltOver, tailWeight}
+use Rattle.wcsp.specs.Theorems.{Optimal, BestFrom}
 use Rattle.wcsp.proofs.Bound.{stepsBounded, bound-fixed}
 use Rattle.wcsp.proofs.Completeness.{optimality}
+use Rattle.wcsp.proofs.Least.{best-from}
+use Rattle.fields.specs.Answers.{good}
+use Rattle.fields.proofs.Costs.{entries-costs}
+use Rattle.rows.specs.Raw.{maxWeight}
 use Rattle.table.specs.Layout.{capacity, tableWords}
 use Rattle.table.specs.Meaning.{ownRows}
 use Rattle.table.proofs.Own.{Held}
 use Rattle.stepping.specs.Step.{Stepping, refusing, stepsTo, pairWord}
 use Rattle.resolution.specs.Calls.{stepReturns, stepCall, runCall}
 use Rattle.resolution.specs.Numbers.{stepNumber, stepFields, outcomeField, runNumber}
+use Rattle.completion.specs.Calls.{completeCall}
 use Rattle.checker.specs.Theorems.{Best}
 use Rattle.checker.proofs.Encoded.{GoodEncoding, coded}
 use Rattle.checker.proofs.Kept.{Takes, keeps-below}
@@ -30,7 +36,7 @@ use Rattle.checker.proofs.Claims.{coded-takes, encoded-left}
 use Rattle.calls.specs.Calls.{Call, afterCalls, started}
 use Rattle.calls.specs.Demand.{StepGives, RunEnds, noneLeft, limitMet, noRoom, Upheld, UpheldFrom, Demand3}
 use Rattle.calls.proofs.Reaching.{reaches-derives, reaches-steps, reaches-left}
-use Rattle.calls.proofs.Held.{held-rows, held-run, plan-short, plan-early, plan-written}
+use Rattle.calls.proofs.Held.{held-rows, held-run, plan-short, plan-early, plan-written, complete-written}
 use Rattle.calls.proofs.Moving.{Moved, step-done, step-left, ran, ran-runs, run-table, moved-left, moved-held, reached}
 
 -- ---- what a run's ending says of its number and its field
@@ -80,6 +86,16 @@ module _ {len : ℕ} {ds : List ℕ} {es : List Entry} (a : Takes len ds es) whe
           attained = sym (l .keeps .weights (rebuilt ds rs) (o .inRange)) ∙ o .attained;
           least = keeps-below (l .keeps);
         }
+
+    completed-rows : (k : ℕ) (fixed target : List ℕ) → length ds ≤ length target → k ≤ length ds → InRange (drop k ds) fixed → nextPair ds rs ≡ none
+        → let plan = rebuiltOver ds rs k fixed in
+        let m = tailWeight k fixed rs in
+        (completeCall t′ k fixed target ≡ record { answer = good m; target = plan ++ drop (length ds) target }) × BestFrom ds es k fixed plan m
+    completed-rows k fixed target room low r e =
+        let best : BestFrom ds es k fixed (rebuiltOver ds rs k fixed) (tailWeight k fixed rs)
+        = best-from ds es rs (a .sizes .positive) (l .keeps .valid) e (l .keeps .weights) k fixed low r in
+        let light : tailWeight k fixed rs ≤ maxWeight = omega (arith, best .attained, entries-costs (a .entries) (rebuiltOver ds rs k fixed)) in
+        (complete-written h k fixed target room low r e light, best)
 
     -- ---- further calls
 
@@ -157,6 +173,7 @@ module _ {len : ℕ} {ds : List ℕ} {es : List Entry} (a : Takes len ds es) whe
           planEarly = rw (h .rows) (plan-early h);
           planWritten = rw (h .rows) (plan-written h);
           best = rw (h .rows) (best-rows l h);
+          completed = rw (h .rows) (completed-rows l h);
         }
 
 pub demand-rows : (inst t : List ℕ) → GoodEncoding inst t → (calls : List Call)

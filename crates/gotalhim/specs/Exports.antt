@@ -8,6 +8,7 @@ use Rattle.making.specs.Calls.{makeCall}
 use Rattle.encoding.specs.Calls.{encodeCall}
 use Rattle.resolution.specs.Calls.{stepCall, runCall}
 use Rattle.resolution.specs.Numbers.{stepNumber, stepFields, runNumber, runFields}
+use Rattle.completion.specs.Calls.{completeCall}
 use Rattle.readout.specs.Calls.{readoutCall}
 use Rattle.checker.specs.Calls.{checkCall}
 use Rattle.calls.specs.Demand.{UpheldFrom}
@@ -44,6 +45,12 @@ abbrev pub runExport : List ℕ → ℕ → List ℕ → List ℕ → Exported
 runExport table limit derivation answer =
     let c = runCall table limit derivation in
     record { number = runNumber (c .answer); slices = c .table ∷ (c .slice ∷ []); answer = noted answer (runFields (c .answer)) }
+
+-- complete: the target, and the cost
+abbrev pub completeExport : List ℕ → ℕ → List ℕ → List ℕ → List ℕ → Exported
+completeExport table k fixed target answer =
+    let c = completeCall table k fixed target in
+    record { number = c .answer .number; slices = c .target ∷ []; answer = noted answer (c .answer .value ∷ []) }
 
 -- check: the work table, and the steps replayed
 abbrev pub checkExport : List ℕ → List ℕ → List ℕ → ℕ → List ℕ → List ℕ → Exported

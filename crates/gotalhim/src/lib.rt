@@ -3,7 +3,7 @@ ghost use mathlib.Core.Path.{_≡_};
 ghost use mathlib.Core.List.{[], _∷_};
 ghost use Rattle.resolution.specs.Numbers.{outcomeNumber, outcomeField};
 ghost use Rattle.assignment.specs.Calls.{planCall};
-ghost use Rattle.gotalhim.specs.Exports.{makeExport, encodeExport, stepExport, runExport, checkExport, readoutExport, costExport, driveExport, DriveUpholds};
+ghost use Rattle.gotalhim.specs.Exports.{makeExport, encodeExport, stepExport, runExport, completeExport, checkExport, readoutExport, costExport, driveExport, DriveUpholds};
 use answers::note;
 use answers::note_three;
 use answers::note_two;
@@ -97,6 +97,25 @@ pub extern "C" fn gotalhim_plan(table: &[u32], target: &mut [u8]) -> u32
     ensures returned { λ r. ⌜ record { number = r; target = now (target .exit) } ≡ planCall (now (table .entry)) (now (target .entry)) ⌝ }
 {
     assignment::plan(table, target)
+}
+
+// Complete an assignment of which the values from variable k on are fixed, from a table in which no pair is left. Answer: the cost.
+#[no_mangle]
+pub extern "C" fn gotalhim_complete(
+    table: &[u32],
+    k: usize,
+    fixed: &[u8],
+    target: &mut [u8],
+    answer: &mut [u64],
+) -> u32
+    ensures returned { λ r. ⌜
+        record { number = r; slices = now (target .exit) ∷ []; answer = now (answer .exit) }
+        ≡ completeExport (now (table .entry)) k (now (fixed .entry)) (now (target .entry)) (now (answer .entry))
+        ⌝ }
+{
+    let completed = completion::complete(table, k, fixed, target);
+    note(answer, completed.value);
+    completed.number
 }
 
 // Replay a derivation in a work table, and judge a plan and its claimed cost. Answer: the steps replayed.

@@ -16,7 +16,7 @@ use Rattle.wcsp.specs.Sign.{has}
 use Rattle.wcsp.specs.Clause.{InRange, AllPositive, nil, cons, falsifies, same, bucket}
 use Rattle.wcsp.specs.Row.{Row, falsified, weightOf, emptyWeight, ValidRows, nilRows, consRows}
 use Rattle.wcsp.specs.Resolve.{nextPair}
-use Rattle.wcsp.specs.Rebuild.{counts, rebuiltValue, rebuiltOver, rebuilt}
+use Rattle.wcsp.specs.Rebuild.{counts, rebuiltValue, rebuiltOver, rebuilt, tailWeight}
 use Rattle.wcsp.specs.Theorems.{Completeness, Optimality}
 use Rattle.wcsp.proofs.Lists.{same-refl, same-eq, along-length}
 use Rattle.wcsp.proofs.Validity.{valid-signs}
@@ -24,6 +24,7 @@ use Rattle.wcsp.proofs.PairSearch.{signsAt, never}
 use Rattle.wcsp.proofs.EmptyRow.{falsifies-empty, falsified-cons, falsified-yes, falsified-no, weightOf-same, weightOf-other, weightOf-absent, emptyBelow}
 use Rattle.wcsp.proofs.Buckets.{bucket-empty, falsifies-drop, falsifies-at}
 use Rattle.wcsp.proofs.Rebuilding.{value-in-range, value-in-signs}
+use Rattle.wcsp.proofs.Tails.{tail-exact}
 
 -- who falsifies fewer rows falsifies no more weight
 pub falsified-mono : (p q : List ℕ) (rs : List Row)
@@ -107,11 +108,15 @@ module _ (ds : List ℕ) (rs : List Row) where
             ∙ ap (λ u. falsifies u (drop k (signsAt rs i))) (a ∙ sym (over-agrees k q))
             ∙ sym (falsifies-drop k o (signsAt rs i) (omega arith)) ∙ f
 
+    pub over-exact : (k : ℕ) (q : List ℕ) → k ≤ length ds → InRange (drop k ds) q → falsified (rebuiltOver ds rs k q) rs ≡ tailWeight k q rs
+    over-exact k q l h = tail-exact k (rebuiltOver ds rs k q) q (over-agrees k q) rs (over-satisfies k q l h)
+
 pub completeness : Completeness
 completeness ds rs k q pos valid done l h = record {
   inRange = over-in-range ds rs pos valid done k q l h;
   agrees = over-agrees ds rs k q;
   satisfies = over-satisfies ds rs pos valid done k q l h;
+  exact = over-exact ds rs pos valid done k q l h;
   cheapest = λ p r. over-cheapest ds rs pos valid done k q l h p;
 }
 

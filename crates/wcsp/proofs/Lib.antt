@@ -20,7 +20,6 @@ pub mod Resolvable
 pub mod Potential
 pub mod Bound
 pub mod Rebuilding
-pub mod Completeness
 pub mod PairFound
 pub mod Adding
 pub mod Raising
@@ -29,10 +28,12 @@ pub mod TooHeavy
 pub mod Settled
 pub mod Passed
 pub mod Cleared
-pub mod Least
 pub mod WideningClauses
+pub mod Tails
+pub mod Completeness
 pub mod WideningRows
 pub mod WideningTables
 pub mod WideningSearch
 pub mod WideningRebuilt
 pub mod Widening
+pub mod Least

@@ -163,7 +163,7 @@ bucket-wide k (S ∷ c) s h = go (eqb S 0) s h (bucket-wide k c)
         eqb·suc-suc (bucket (wide k c)) t ∙ ih t (le-of-suc-le-suc l) ∙ sym (eqb·suc-suc (bucket c) t)
     go false s l ih = refl
 
-bucket-zeros : (k : ℕ) → bucket (replicate k 0) ≡ k
+pub bucket-zeros : (k : ℕ) → bucket (replicate k 0) ≡ k
 unfolding bucket
 bucket-zeros zero = refl
 bucket-zeros (suc k) = ap suc (bucket-zeros k)

@@ -92,6 +92,12 @@ module _ (k : ℕ) (ds : List ℕ) where
   over-wide zero q rs p h = refl
   over-wide (suc s) q rs p h = rw (value-wide s q rs p h) (over-wide s (rebuiltValue ds rs s q ∷ q) rs p (omega arith))
 
+  pub over-own : (s : ℕ) (q : List ℕ) (rs : List Row) → Spanning (length ds) (clausesOf rs) → s + length q ≡ length ds
+      → take (length ds) (rebuiltOver (widened k ds) (wideRows k rs) s (wideValues k q)) ≡ rebuiltOver ds rs s q
+  over-own s q rs p h =
+      ap (take (length ds)) (over-wide s q rs p (omega arith))
+      ∙ take-at (rebuiltOver ds rs s q) (replicate k 0) (length ds) (rebuilt-length ds rs s q ∙ h)
+
   pub rebuilt-wide : (rs : List Row) → Spanning (length ds) (clausesOf rs)
       → rebuilt (widened k ds) (wideRows k rs) ≡ wideValues k (rebuilt ds rs)
   unfolding rebuilt

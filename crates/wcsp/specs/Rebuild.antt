@@ -1,10 +1,10 @@
--- The rebuilt assignment (document 01: plan): the extension, from the last variable down, of given higher values.
-use Prim.Native.Nat.{ℕ, zero, suc}
+-- The rebuilt assignment (document 01: plan): the extension, from the last variable down, of given higher values, and what these cost.
+use Prim.Native.Nat.{ℕ, zero, suc, _+_}
 use mathlib.Core.Bool.{Bool, _&&_, cond}
 use mathlib.Core.List.{List, [], _∷_}
 use lib.ListN.{length, getD, drop}
 use lib.Bits.{bitAnd}
-use lib.Dec.{eqb}
+use lib.Dec.{eqb, leb}
 use Rattle.wcsp.specs.Sign.{full, lowest}
 use Rattle.wcsp.specs.Clause.{bucket, falsifies}
 use Rattle.wcsp.specs.Row.{Row}
@@ -34,3 +34,13 @@ rebuiltOver ds rs (suc k) q = rebuiltOver ds rs k (rebuiltValue ds rs k q ∷ q)
 unfoldable pub rebuilt : List ℕ → List Row → List ℕ
 unfolding rebuiltOver
 rebuilt ds rs = rebuiltOver ds rs (length ds) []
+
+-- the clause has no variable below k, and the values q from k on falsify it
+unfoldable pub falsifiesFrom : ℕ → List ℕ → List ℕ → Bool
+falsifiesFrom k q c = leb k (bucket c) && falsifies q (drop k c)
+
+-- "the falsified weight of the rows without stations below k" (document 02), by the values q from k on
+unfoldable pub tailWeight : ℕ → List ℕ → List Row → ℕ
+unfolding falsifiesFrom
+tailWeight k q [] = zero
+tailWeight k q (r ∷ rs) = cond (falsifiesFrom k q (r .signs)) (r .weight) 0 + tailWeight k q rs

@@ -11,7 +11,7 @@ use Rattle.wcsp.specs.Row.{Row, falsified, emptyWeight, ValidRows}
 use Rattle.wcsp.specs.Entry.{Entry, WellFormed, cost, encoded, LeastCost}
 use Rattle.wcsp.specs.Rule.{conclusions, permitted}
 use Rattle.wcsp.specs.Resolve.{Pair, noRow, nextPair, resolve, MayResolve, Steps, Replays}
-use Rattle.wcsp.specs.Rebuild.{rebuilt, rebuiltOver}
+use Rattle.wcsp.specs.Rebuild.{rebuilt, rebuiltOver, tailWeight}
 use Rattle.wcsp.specs.Bound.{potential, rowBound, stepBound}
 
 -- how many of the clauses the assignment falsifies
@@ -112,12 +112,13 @@ abbrev pub WeightsWitnessed : Type 0
 WeightsWitnessed = (ds : List ℕ) (rs : List Row) (i : ℕ) → ValidRows ds rs → i < length rs → Witnessed ds rs (getD rs i noRow .weight)
 
 -- the rebuilt assignment over the values q of the variables from k on: in range, agreeing with q, satisfying every row of the buckets
--- below k, and no dearer than any assignment that agrees with q
+-- below k, falsifying exactly the weight of the other rows that q falsifies, and no dearer than any assignment that agrees with q
 pub record Completes (ds : List ℕ) (rs : List Row) (k : ℕ) (q : List ℕ) : Type 0 where
   pub inRange : InRange ds (rebuiltOver ds rs k q)
   pub agrees : drop k (rebuiltOver ds rs k q) ≡ q
   pub satisfies : (i : ℕ) → i < length rs → bucket (getD rs i noRow .signs) < k
       → falsifies (rebuiltOver ds rs k q) (getD rs i noRow .signs) ≡ false
+  pub exact : falsified (rebuiltOver ds rs k q) rs ≡ tailWeight k q rs
   pub cheapest : (p : List ℕ) → InRange ds p → drop k p ≡ q → falsified (rebuiltOver ds rs k q) rs ≤ falsified p rs
 
 -- completeness of saturated rows (document 000, Definition 19.13 and Figure 19.2), for every k and every choice from variable k on.
@@ -140,3 +141,21 @@ Optimality = (ds : List ℕ) (rs : List Row) → AllPositive ds → ValidRows ds
 abbrev pub SaturatedIsLeast : Type 0
 SaturatedIsLeast = (ds : List ℕ) (es : List Entry) (prs : List Pair) (rs′ : List Row) → AllPositive ds → WellFormed ds es
     → Replays ds (encoded ds es) prs rs′ → nextPair ds rs′ ≡ none → LeastCost ds es (emptyWeight (length ds) rs′)
+
+-- p has the values q of the variables from k on, its cost is m, and no assignment that has them costs less (document 02: completion)
+pub record BestFrom (ds : List ℕ) (es : List Entry) (k : ℕ) (q p : List ℕ) (m : ℕ) : Type 0 where
+  pub inRange : InRange ds p
+  pub agrees : drop k p ≡ q
+  pub attained : cost es p ≡ m
+  pub least : (p′ : List ℕ) → InRange ds p′ → drop k p′ ≡ q → m ≤ cost es p′
+
+-- of such rows, for every k and every choice of the values from variable k on: the falsified weight of the rows without variables below k
+-- is the least cost of any completion, and the assignment rebuilt over them has it
+abbrev pub SaturatedCompletes : Type 0
+SaturatedCompletes = (ds : List ℕ) (es : List Entry) (prs : List Pair) (rs′ : List Row) (k : ℕ) (q : List ℕ) → AllPositive ds → WellFormed ds es
+    → Replays ds (encoded ds es) prs rs′ → nextPair ds rs′ ≡ none → k ≤ length ds → InRange (drop k ds) q
+    → BestFrom ds es k q (rebuiltOver ds rs′ k q) (tailWeight k q rs′)
+
+-- with no value given it is the empty row's weight
+abbrev pub TailOfNone : Type 0
+TailOfNone = (ds : List ℕ) (rs : List Row) → ValidRows ds rs → tailWeight (length ds) [] rs ≡ emptyWeight (length ds) rs
