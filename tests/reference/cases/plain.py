@@ -95,3 +95,17 @@ def plain_answer(sizes, rows, most_rows):
     if len(after) > most_rows:
         return 12, pair, before
     return 0, pair, after
+
+
+def plain_completion(domains, rows, fixed):
+    """The cost and the assignment with these values in the last places: before them, from the last down, each gets the least
+    value in the sets of all rows that belong to it and that no value behind it satisfies."""
+    k = len(domains) - len(fixed)
+    chosen = dict(enumerate(fixed, k))
+    cost = sum(weight for clause, weight in rows
+               if all(place >= k and chosen[place] not in clause[place] for place in clause))
+    for variable in reversed(range(k)):
+        sets = [clause[variable] for clause, _ in rows if belongs(clause) == variable
+                and all(chosen[place] not in clause[place] for place in clause if place != variable)]
+        chosen[variable] = min(domains[variable].intersection(*sets))
+    return cost, [chosen[variable] for variable in range(len(domains))]

@@ -3,11 +3,11 @@
 import unittest
 from itertools import product
 
-from reference import words
+from reference import complete_call, words
 from reference.fields import as_bytes, sheet
 from reference.tables import capacity, read_table
 
-from .plain import plain_answer, plain_rows, value_set
+from .plain import plain_answer, plain_completion, plain_rows, value_set
 
 COSTS = [0, 1, 1, 2, 3, 5, 9, 65_535]
 
@@ -72,3 +72,16 @@ class Comparison(unittest.TestCase):
         self.assertEqual(answer.outcome, "refused" if number else "stepped" if pair else "done")
         self.assertEqual(answer.word, words.step(*pair) if pair and not number else 0)
         self.assertEqual(plain_rows(read_table(answer.table).rows), after)
+
+    def completed(self, table, costs):
+        """In a table with no pair left, any last values are completed by the plain reading, and at the least cost that an
+        assignment with these values has; answers with how many there are."""
+        sizes, rows = read_table(table)
+        domains, count = [frozenset(range(size)) for size in sizes], len(sizes)
+        tails = {(k, assignment[k:]) for assignment in costs for k in range(count + 1)}
+        for k, fixed in tails:
+            cost, assignment = plain_completion(domains, plain_rows(rows), fixed)
+            self.assertEqual(complete_call(table, k, list(fixed), [9] * (count + 1)), (0, cost, assignment + [9]))
+            self.assertEqual(cost, min(paid for other, paid in costs.items() if other[k:] == fixed))
+            self.assertEqual((tuple(assignment[k:]), costs[tuple(assignment)]), (fixed, cost))
+        return len(tails)

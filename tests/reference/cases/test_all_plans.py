@@ -1,4 +1,4 @@
-"""Small fields against all their assignments, after every step and at the end."""
+"""Small fields against all their assignments, after every step and at the end, where any last values are completed."""
 
 import random
 from itertools import product
@@ -24,6 +24,7 @@ class Fields(Comparison):
         self.assertEqual(costs[tuple(assignment)], bound)
         self.assertEqual(check_call(source, derivation, assignment, bound, [6] * len(start)),
                          (0, len(derivation), table))
+        self.completed(table, costs)
         return len(derivation)
 
     def step_to_the_end(self, table, costs):

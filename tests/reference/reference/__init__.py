@@ -7,12 +7,12 @@ lent slice beside the returned fields.
 from .checker import check_call
 from .inputs import make_instance
 from .planning import Buffers, solved
-from .plans import plan_call
+from .plans import complete_call, plan_call
 from .printed import printed_plan
 from .readout import readout_call
 from .season import season_line
 from .steps import run_call, step_call
 from .tables import encode
 
-__all__ = ["Buffers", "check_call", "encode", "make_instance", "plan_call", "printed_plan", "readout_call",
-           "run_call", "season_line", "solved", "step_call"]
+__all__ = ["Buffers", "check_call", "complete_call", "encode", "make_instance", "plan_call", "printed_plan",
+           "readout_call", "run_call", "season_line", "solved", "step_call"]

@@ -19,6 +19,9 @@ WEIGHT_TOO_HIGH = 11
 TABLE_FULL = 12
 PAIR_LEFT = 13
 
+# Of document 02's requests.
+BAD_FIXED = 14
+
 
 class Refused(Exception):
     """Raised at the first condition that fails; every public call catches it and answers with the number."""

@@ -39,6 +39,17 @@ def row(text, variables):
     return Row(tuple(int(sign) for sign in signs.split(",")), int(weight))
 
 
+def settled_rows(weights):
+    """Up to 4,096 rows of these weights over twelve variables, as many of each of the first eight. Their lowest signs are
+    equal, so that no two are a pair, and value 0 lies in no sign."""
+    made = []
+    for at, weight in enumerate(weights):
+        signs = [0] * 12
+        signs[at % 8], signs[8], signs[9] = 2, 2 * (1 + at // 8 % 64), 2 * (1 + at // 512)
+        made.append(Row(tuple(signs), weight))
+    return made
+
+
 def table(sizes, text, length):
     """The slice of this length that holds a table of these rows, zero past them."""
     written = table_words(sizes, rows(text, len(sizes)), length)
