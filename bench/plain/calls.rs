@@ -106,6 +106,13 @@ fn plan(line: &mut Line) -> Answer {
     Answer::of(planned.map(|()| 0)).with_bytes(&target)
 }
 
+fn complete(line: &mut Line) -> Answer {
+    let (table, k) = (line.words(), line.number() as usize);
+    let (fixed, mut target) = (line.bytes(), line.bytes());
+    let completed = plain::complete(&table, k, &fixed, &mut target);
+    Answer::of(completed).with_bytes(&target)
+}
+
 fn check(line: &mut Line) -> Answer {
     let (instance, derivation, assignment) = (line.words(), line.words(), line.bytes());
     let (claimed, mut table) = (line.number(), line.words());
@@ -134,6 +141,7 @@ fn answer(text: &str) -> Answer {
         "step" => step(line),
         "run" => run(line),
         "plan" => plan(line),
+        "complete" => complete(line),
         "check" => check(line),
         "readout" => readout(line),
         "cost" => cost(line),

@@ -44,8 +44,14 @@ impl Domains {
 
     /// Whether these bytes are an assignment of the field: one value in range for each variable.
     pub fn has(&self, assignment: &[u8]) -> bool {
-        assignment.len() == self.count
-            && assignment.iter().zip(self.sizes()).all(|(&value, &size)| u32::from(value) < size)
+        self.has_from(0, assignment)
+    }
+
+    /// Whether these bytes are one value in range for each variable from the given one on, which may be one past the last.
+    pub fn has_from(&self, variable: usize, values: &[u8]) -> bool {
+        self.sizes().get(variable..).map_or(false, |sizes| {
+            values.len() == sizes.len() && values.iter().zip(sizes).all(|(&value, &size)| u32::from(value) < size)
+        })
     }
 }
 

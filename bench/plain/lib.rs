@@ -21,7 +21,7 @@ mod stepping;
 mod table;
 pub mod words;
 
-pub use assignment::plan;
+pub use assignment::{complete, plan};
 pub use checker::{check, Checked};
 pub use encoding::encode;
 pub use entries::cost;

@@ -18,6 +18,8 @@ pub enum Refusal {
     WeightTooHigh = 11,
     TableFull = 12,
     PairLeft = 13,
+    // Of document 02's requests.
+    BadFixed = 14,
 }
 
 impl Refusal {

@@ -7,7 +7,7 @@ from reference.answers import BAD_CLAIM, BAD_TABLE, GOOD, Refused
 from reference.inputs import cost_of, in_range, read_instance
 from reference.tables import read_table
 
-ALL_NUMBERS = list(range(14))
+ALL_NUMBERS = list(range(15))
 OUTCOMES = {"done": 0, "paused": 1, "refused": 2}
 
 
@@ -54,6 +54,12 @@ def run(table, limit, derivation):
 def plan(table, target):
     planned = reference.plan_call(table, target)
     return call("plan", sliced(table) + sliced(target), [planned.number, 0] + sliced(planned.target))
+
+
+def complete(table, k, fixed, target):
+    completed = reference.complete_call(table, k, fixed, target)
+    return call("complete", sliced(table) + [k] + sliced(fixed) + sliced(target),
+                [completed.number, completed.cost] + sliced(completed.target))
 
 
 def check(instance, derivation, assignment, claimed, table):

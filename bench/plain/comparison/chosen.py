@@ -1,5 +1,7 @@
 """Chosen inputs that random ones hardly meet: limits and half metres reached exactly, and two faults at once."""
 
+from itertools import product
+
 import calls
 from reference import fields, words
 from reference.limits import MAX_ENTRIES, MAX_ROWS, MAX_WEIGHT
@@ -7,7 +9,8 @@ from reference.tables import Row, table_words
 
 
 def chosen_calls():
-    return entry_calls() + full_calls() + faulty_tables() + heavy_and_full() + claim_calls() + distance_calls()
+    return (entry_calls() + full_calls() + faulty_tables() + heavy_and_full() + completion_calls() + heavy_completions()
+            + claim_calls() + distance_calls())
 
 
 def entry_calls():
@@ -44,6 +47,27 @@ def heavy_and_full():
         for room in (3, 4):
             table = fields.table([3, 3], f"1,1:1 2,0:2 0,1:{weight}", fields.table_length(2, room))
             made += [calls.step(table), calls.run(table, 5, [0] * 5)]
+    return made
+
+
+def completion_calls():
+    """Any k with any fixed values, in range or not, too few or too many, in tables with and without a pair, a high cost, a
+    fault; the target is too short, just long enough or longer."""
+    tables = [fields.table([3, 2], rows, 25)
+              for rows in ("4,1:1 6,2:1 0,2:3 empty:2", f"0,2:{MAX_WEIGHT} empty:1", f"4,0:1 2,0:1 empty:{MAX_WEIGHT}", "4,3:1")]
+    tails = [list(fixed) for count in range(4) for fixed in product([0, 1, 2, 3, 255], repeat=count)]
+    return [calls.complete(table, k, fixed, [9] * length)
+            for table in tables for k in (0, 1, 2, 3, (1 << 64) - 1) for fixed in tails for length in (1, 2, 4)]
+
+
+def heavy_completions():
+    """As many rows as there may be, whose weights add up to the greatest one, to one more, to powers of two, and far beyond."""
+    made = []
+    for first, other in [(65_535 + 4_095, 65_535), (65_535 + 4_096, 65_535), (1 << 16, 1 << 16), (1 << 20, 1 << 20),
+                         (MAX_WEIGHT, MAX_WEIGHT)]:
+        rows = fields.settled_rows([first] + [other] * (MAX_ROWS - 1))
+        table = table_words([8] * 12, rows, fields.table_length(12, MAX_ROWS))
+        made += [calls.complete(table, k, [0] * (12 - k), [9] * 12) for k in (0, 8)]
     return made
 
 

@@ -101,7 +101,7 @@ def encoded(rng, sizes, instance):
 
 
 def table_calls(rng, sizes, instance):
-    """Steps, runs and plans one after the other on one table."""
+    """Steps, runs, plans and completions one after the other on one table."""
     table = encoded(rng, sizes, instance)
     made = [calls.step(table), calls.plan(table, [7] * len(sizes))]
     run = reference.run_call(table, rng.choice([0, 3, 200]), filled(rng, rng.choice([0, 5, 300])))
@@ -109,8 +109,18 @@ def table_calls(rng, sizes, instance):
     made.append(calls.run(run.table, 300, filled(rng, 300)))
     end = reference.run_call(table, 300, [0] * 300).table
     made.append(calls.plan(end, filled_bytes(rng, len(sizes) + rng.randint(-1, 2))))
+    made += [completion(rng, end, sizes) for _ in range(4)] + [completion(rng, table, sizes)]
     hurt = damaged(rng, rng.choice([table, end]))
-    return made + [calls.step(hurt), calls.run(hurt, 9, [1] * 9), calls.plan(hurt, [9] * 12)]
+    return made + [calls.step(hurt), calls.run(hurt, 9, [1] * 9), calls.plan(hurt, [9] * 12), completion(rng, hurt, sizes)]
+
+
+def completion(rng, table, sizes):
+    """A completion from any variable on; now and then k or the fixed values are faulty."""
+    k = rng.randrange(len(sizes) + 1)
+    fixed = random_assignment(rng, sizes)[k:]
+    if rng.random() < 0.1:
+        k = rng.choice([k + 1, len(sizes) + 1, (1 << 64) - 1])
+    return calls.complete(table, k, fixed, filled_bytes(rng, len(sizes) + rng.choice([-1, 0, 0, 0, 2])))
 
 
 def filled_bytes(rng, length):
@@ -118,14 +128,14 @@ def filled_bytes(rng, length):
 
 
 def heavy_calls(rng, sizes):
-    """A step and a run on random rows with weights near the limit."""
+    """A step, a run and a completion on random rows with weights near the limit."""
     rows = {}
     for _ in range(rng.randint(0, 12)):
         signs = tuple(rng.randrange(max(1, 2 ** size - 1)) * (rng.random() < 0.6) for size in sizes)
         rows[signs] = rng.choice([1, 2, MAX_WEIGHT // 2, MAX_WEIGHT - 1, MAX_WEIGHT])
     length = fields.table_length(len(sizes), len(rows) + rng.choice([0, 1, 30]), rng.randrange(5))
     table = table_words(sizes, [Row(signs, weight) for signs, weight in rows.items()], length)
-    return [calls.step(table), calls.run(table, 60, [3] * 60)]
+    return [calls.step(table), calls.run(table, 60, [3] * 60), completion(rng, table, sizes)]
 
 
 def check_calls(rng, sizes, instance):
