@@ -4,6 +4,7 @@ import driver
 from chosen import GROWING
 from lists import SMALL_FIELDS
 from reference import fields, words
+from reference.limits import MAX_WEIGHT
 from small_fields import through_all_calls
 
 SHEET = fields.sheet([[(0, 0)], [(300, 400), (600, 800)]], [([(1, 0)], 9)])
@@ -28,6 +29,11 @@ def refused_calls(both):
     both.encode(instance, [9] * 6)
     both.check(instance, [], [0], 1, [9] * 6)
     both.drive(instance, [9] * 6, [driver.step_word()], [9] * 3, [9] * 3)
+    both.complete(tight, 1, [0, 0], [9] * 3)
+    both.complete(tight, 4, [], [9] * 3)
+    both.complete(tight, 1, [0, 0], [9] * 2)
+    both.complete(tight[:-1], 1, [0, 0], [9] * 3)
+    both.complete(fields.table([2], f"2:{MAX_WEIGHT} empty:1", 20), 0, [0], [9])
     both.step(tight[:-1])
     both.run(tight[:-1], 9, [9] * 9)
     both.make(SHEET, [9] * 3)

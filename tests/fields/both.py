@@ -21,6 +21,7 @@ UNANSWERED = 77
 RUN_LIMIT = 5
 # How many elements of a slice are shown where a call differs.
 SHOWN = 60
+SIZE_MAX = SIZE(-1).value
 
 
 class Answer(NamedTuple):
@@ -60,6 +61,11 @@ def fault_of(got, expected):
              f"reference: number {expected.number}, answer {expected.fields}"]
             + [f"slice {at}: {first_difference(one, other)}"
                for at, (one, other) in enumerate(zip(got.slices, expected.slices)) if one != other])
+
+
+def named_variables(table):
+    """The number of variables that a table's head names, if it is one at all."""
+    return table[0] & 15 if table else 0
 
 
 def row_total(table):
@@ -137,13 +143,22 @@ class Both:
         self.agree("plan", [(WORD, table), (BYTE, target)], Answer(planned.number, [], [table, planned.target]))
         return planned
 
+    def complete(self, table, k, fixed, target):
+        completed = reference.complete_call(table, k, fixed, target)
+        self.agree("complete", [(WORD, table), (SIZE, k), (BYTE, fixed), (BYTE, target)],
+                   Answer(completed.number, [completed.cost], [table, fixed, completed.target]))
+        return completed
+
     def on_table(self, table):
-        """A step, runs and plans, each on the same table; where it is not valid, 9 comes before the short target's 10."""
+        """A step, runs, plans and completions, each on the same table; where it is not valid, 9 comes before the short
+        target's 10 and the 14 of what is fixed."""
         self.step(table)
         self.run(table, RUN_LIMIT, [9] * (RUN_LIMIT + 1))
         self.run(table, RUN_LIMIT, [9] * 2)
         self.plan(table, [200] * 13)
         self.plan(table, [])
+        self.complete(table, 1, [0] * (named_variables(table) - 1), [200] * 13)
+        self.complete(table, SIZE_MAX, [], [])
 
     def check(self, instance, derivation, plan, claimed, table):
         checked = reference.check_call(instance, derivation, plan, claimed, table)

@@ -1,4 +1,5 @@
-"""Every small field through all calls: the encoding, each step, the whole run, the plan and the checker.
+"""Every small field through all calls: the encoding, each step, the whole run, the plan, its completion from any last values, and
+the checker.
 
 Covered are all fields with costs from these sets, the entries in the order constant, single values, pairs of values:
 - one variable of 1 to 4 values: constant 0 or 1, values 0 to 4;
@@ -11,6 +12,9 @@ from itertools import product
 from math import prod
 from typing import NamedTuple
 
+from both import row_total
+from completions import completed
+from different import require
 from reference import fields
 from reference.clauses import full
 from reference.steps import STEPPED
@@ -67,6 +71,10 @@ def through_all_calls(both, sizes, entries, spare):
     derivation, table = stepped_to_the_end(both, start)
     ran = both.run(start, len(derivation) + 1, [4] * (len(derivation) + 1))
     plan = both.plan(table, [8] * len(sizes)).target
+    # In a slice that ends behind the rows, which takes less time.
+    ended = table[:fields.table_length(len(sizes), row_total(table), spare)]
+    unfixed = completed(both, sizes, entries, ended)[()]
+    require((unfixed.cost, unfixed.target) == (ran.bound, plan), f"{unfixed} with no value fixed, the plan {plan}")
     both.check(instance, derivation, plan, ran.bound, [6] * length)
 
 
