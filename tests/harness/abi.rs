@@ -27,6 +27,13 @@ mod declared {
             table: *const u32, table_length: usize,
             target: *mut u8, target_length: usize,
         ) -> u32;
+        pub fn gotalhim_complete(
+            table: *const u32, table_length: usize,
+            k: usize,
+            fixed: *const u8, fixed_length: usize,
+            target: *mut u8, target_length: usize,
+            answer: *mut u64, answer_length: usize,
+        ) -> u32;
         pub fn gotalhim_drive(
             instance: *const u32, instance_length: usize,
             table: *mut u32, table_length: usize,
@@ -102,6 +109,19 @@ pub fn run(table: &mut [u32], limit: usize, derivation: &mut [u32], answer: &mut
 pub fn plan(table: &[u32], target: &mut [u8]) -> u32 {
     unsafe {
         declared::gotalhim_plan(table.as_ptr(), table.len(), target.as_mut_ptr(), target.len())
+    }
+}
+
+/// Writes the assignment with the fixed values of the variables from k on; the answer is its cost.
+pub fn complete(table: &[u32], k: usize, fixed: &[u8], target: &mut [u8], answer: &mut [u64]) -> u32 {
+    unsafe {
+        declared::gotalhim_complete(
+            table.as_ptr(), table.len(),
+            k,
+            fixed.as_ptr(), fixed.len(),
+            target.as_mut_ptr(), target.len(),
+            answer.as_mut_ptr(), answer.len(),
+        )
     }
 }
 

@@ -11,11 +11,13 @@ pub enum Call {
     Readout { sheet: Vec<u32>, assignment: Vec<u8>, variable: u32, easting: u32, northing: u32 },
     Cost { instance: Vec<u32>, assignment: Vec<u8> },
     Drive { instance: Vec<u32>, table: Vec<u32>, calls: Vec<u32>, derivation: Vec<u32>, target: Vec<u8> },
+    Complete { table: Vec<u32>, k: usize, fixed: Vec<u8>, target: Vec<u8> },
 }
 
-pub const CALLS: usize = 9;
+pub const CALLS: usize = 10;
 
-pub const NAMES: [&str; CALLS] = ["make", "encode", "step", "run", "plan", "check", "readout", "cost", "drive"];
+pub const NAMES: [&str; CALLS] =
+    ["make", "encode", "step", "run", "plan", "check", "readout", "cost", "drive", "complete"];
 
 /// The numbers that random inputs of each call have to reach.
 pub const NUMBERS: [&[u32]; CALLS] = [
@@ -28,10 +30,11 @@ pub const NUMBERS: [&[u32]; CALLS] = [
     &[0, 1, 2, 3, 4, 5, 8],
     &[0, 1, 2, 3, 4, 5, 7],
     &[0, 1, 2, 3, 4, 5, 10, 12],
+    &[0, 9, 10, 11, 13, 14],
 ];
 
 /// How many fields each call returns besides its number.
-const FIELDS: [usize; CALLS] = [1, 1, 2, 3, 0, 1, 1, 1, 1];
+const FIELDS: [usize; CALLS] = [1, 1, 2, 3, 0, 1, 1, 1, 1, 1];
 
 impl Call {
     /// The call's place in the lists above.
@@ -46,6 +49,7 @@ impl Call {
             Call::Readout { .. } => 6,
             Call::Cost { .. } => 7,
             Call::Drive { .. } => 8,
+            Call::Complete { .. } => 9,
         }
     }
 
@@ -53,10 +57,13 @@ impl Call {
         FIELDS[self.index()]
     }
 
-    /// The table of a step, a run or a plan.
+    /// The table of a step, a run, a plan or a completion.
     pub fn into_table(self) -> Vec<u32> {
         match self {
-            Call::Step { table } | Call::Run { table, .. } | Call::Plan { table, .. } => table,
+            Call::Step { table }
+            | Call::Run { table, .. }
+            | Call::Plan { table, .. }
+            | Call::Complete { table, .. } => table,
             _ => Vec::new(),
         }
     }

@@ -6,7 +6,7 @@ use crate::call::Call;
 use crate::comparison::Comparison;
 use crate::fields::Field;
 use crate::random::Random;
-use crate::tables::{clause_of, length, table};
+use crate::tables::{clause_of, length, table, MAX_WEIGHT};
 
 const ENTRIES: usize = 4_096;
 const ROWS: usize = 4_096;
@@ -54,6 +54,7 @@ pub fn rows_round(random: &mut Random, comparison: &mut Comparison) {
     let table = random.words(length(5, room) + spare);
     comparison.make(random, Call::Encode { instance: field.instance(), table });
     full_table(random, comparison);
+    all_falsified(random, comparison);
 }
 
 /// Calls on a table that one step fills to the last row or beyond, or that has one row too many.
@@ -66,7 +67,22 @@ fn full_table(random: &mut Random, comparison: &mut Comparison) {
     let words = table_of(&rows, ROWS + random.pick(&[1, 1, 4]) - usize::from(rows.len() <= ROWS));
     comparison.make(random, Call::Step { table: words.clone() });
     comparison.make(random, Call::Run { table: words.clone(), limit: 3, derivation: vec![1; 4] });
-    comparison.make(random, Call::Plan { table: words, target: vec![1; 4] });
+    comparison.make(random, Call::Plan { table: words.clone(), target: vec![1; 4] });
+    comparison.make(random, Call::Complete { table: words, k: 1, fixed: vec![0, 0], target: vec![1; 4] });
+}
+
+/// Completions of as many rows as there may be, whose lowest signs are equal, so that no pair is left: the cost of all of them is
+/// the greatest one, one more, 2 to the 32nd and a little, or far beyond.
+fn all_falsified(random: &mut Random, comparison: &mut Comparison) {
+    let (weight, more) = random.pick(&[(65_535, 4_095), (65_535, 4_096), (1 << 20, 5), (MAX_WEIGHT, 0)]);
+    let mut rows = vec![([2, 0, 0], weight + more)];
+    rows.extend((1..ROWS as u32).map(|at| ([2, 2 * (at / 120), 2 * (at % 120)], weight)));
+    rows.swap(0, random.below(ROWS));
+    let table = table_of(&rows, ROWS);
+    for fixed in [vec![0, 0, 0], vec![0, 0]] {
+        let (table, k) = (table.clone(), 3 - fixed.len());
+        comparison.make(random, Call::Complete { table, k, fixed, target: vec![1; 3] });
+    }
 }
 
 fn rows_after_a_step(rows: &[([u32; 3], u32)]) -> usize {

@@ -1,7 +1,8 @@
-//! Long derivations: by one run, by the driver in parts, and replayed by the checker.
+//! Long derivations: by one run, whose table is completed, by the driver in parts, and replayed by the checker.
 
 use crate::call::Call;
 use crate::comparison::Comparison;
+use crate::completions::completion;
 use crate::damage;
 use crate::fields::{sizes, Field};
 use crate::random::Random;
@@ -24,7 +25,10 @@ pub fn round(random: &mut Random, comparison: &mut Comparison) {
     let table_length = length(field.variables(), encoded_rows(&field) + random.pick(&SPARE));
     let mut table = vec![0; table_length];
     plain::encode(&field.instance(), &mut table).expect("the rows fit");
-    comparison.make(random, Call::Run { table, limit: usize::MAX, derivation: vec![UNUSED; STEPS] });
+    let run = Call::Run { table, limit: usize::MAX, derivation: vec![UNUSED; STEPS] };
+    let left = comparison.make(random, run).into_table();
+    let call = completion(random, left, &field);
+    comparison.make(random, call);
     let call = driven(random, &field, table_length);
     if let Call::Drive { instance, table, derivation, target, .. } = comparison.make(random, call) {
         let steps: Vec<u32> = derivation.into_iter().take_while(|&step| step != UNUSED).collect();

@@ -28,7 +28,7 @@ fn made_with(call: &mut Call, answer: &mut [u64]) -> Made {
         Call::Encode { instance, table } => on_words(table, |table| abi::encode(instance, table, answer)),
         Call::Step { table } => on_words(table, |table| abi::step(table, answer)),
         Call::Run { table, limit, derivation } => run(table, *limit, derivation, answer),
-        Call::Plan { table, target } => plan(table, target),
+        Call::Plan { table, target } => on_bytes(target, |target| abi::plan(table, target)),
         Call::Check { instance, derivation, assignment, claimed, table } => {
             on_words(table, |table| abi::check(instance, derivation, assignment, *claimed, table, answer))
         }
@@ -38,6 +38,9 @@ fn made_with(call: &mut Call, answer: &mut [u64]) -> Made {
         }
         Call::Cost { instance, assignment } => {
             Made { number: abi::cost(instance, assignment, answer), kept_within: true }
+        }
+        Call::Complete { table, k, fixed, target } => {
+            on_bytes(target, |target| abi::complete(table, *k, fixed, target, answer))
         }
         Call::Drive { instance, table, calls, derivation, target } => {
             drive(instance, table, calls, derivation, target, answer)
@@ -51,17 +54,17 @@ fn on_words(words: &mut [u32], made: impl FnOnce(&mut [u32]) -> u32) -> Made {
     Made { number, kept_within: lent.returned(words) }
 }
 
+fn on_bytes(bytes: &mut [u8], made: impl FnOnce(&mut [u8]) -> u32) -> Made {
+    let mut lent = Guarded::new(bytes, BYTE);
+    let number = made(lent.lent());
+    Made { number, kept_within: lent.returned(bytes) }
+}
+
 fn run(table: &mut [u32], limit: usize, derivation: &mut [u32], answer: &mut [u64]) -> Made {
     let mut steps = Guarded::new(derivation, WORD);
     let made = on_words(table, |table| abi::run(table, limit, steps.lent(), answer));
     let kept_within = steps.returned(derivation) && made.kept_within;
     Made { kept_within, ..made }
-}
-
-fn plan(table: &[u32], target: &mut [u8]) -> Made {
-    let mut lent = Guarded::new(target, BYTE);
-    let number = abi::plan(table, lent.lent());
-    Made { number, kept_within: lent.returned(target) }
 }
 
 fn drive(

@@ -1,7 +1,8 @@
-//! Lists of calls on one table: steps, runs and plans in any order, refused ones included.
+//! Lists of calls on one table: steps, runs, plans and completions in any order, refused ones included.
 
 use crate::call::Call;
 use crate::comparison::Comparison;
+use crate::completions::completion;
 use crate::fields::Field;
 use crate::random::Random;
 use crate::table_damage;
@@ -17,21 +18,25 @@ pub fn round(random: &mut Random, comparison: &mut Comparison) {
         table = table_damage::damaged(random, table);
     }
     for _ in 0..random.between(1, 7) {
-        let call = any_call(random, table, field.variables());
+        let call = any_call(random, table, &field);
         table = comparison.make(random, call).into_table();
     }
 }
 
-fn any_call(random: &mut Random, table: Vec<u32>, variables: usize) -> Call {
-    match random.below(3) {
+fn any_call(random: &mut Random, table: Vec<u32>, field: &Field) -> Call {
+    match random.below(4) {
         0 => Call::Step { table },
         1 => {
             let length = random.pick(&SLICES);
             Call::Run { table, limit: random.pick(&LIMITS), derivation: random.words(length) }
         }
-        _ => {
-            let length = random.pick(&[0, variables - 1, variables, variables, variables, variables + 3, 12]);
-            Call::Plan { table, target: random.bytes(length) }
-        }
+        2 => Call::Plan { table, target: target(random, field.variables()) },
+        _ => completion(random, table, field),
     }
+}
+
+/// The target of a plan, in some of the cases too short or longer than needed.
+pub fn target(random: &mut Random, variables: usize) -> Vec<u8> {
+    let length = random.pick(&[0, variables - 1, variables, variables, variables, variables + 3, 12]);
+    random.bytes(length)
 }

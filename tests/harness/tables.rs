@@ -5,7 +5,7 @@ use plain::words::{word, HEAD, ROW_COUNT, SIGNS, SIZE, WEIGHT};
 use crate::fields::Field;
 use crate::random::Random;
 
-const MAX_WEIGHT: u32 = 268_435_455;
+pub const MAX_WEIGHT: u32 = 268_435_455;
 const HEAVY: [u32; 6] = [1, 2, 3, MAX_WEIGHT / 2, MAX_WEIGHT - 1, MAX_WEIGHT];
 
 /// The length of a slice with room for so many rows.

@@ -14,6 +14,7 @@ pub fn made(call: &mut Call, answer: &mut [u64]) -> u32 {
         Call::Step { table } => stepped(plain::step(table)),
         Call::Run { table, limit, derivation } => ran(plain::run(table, *limit, derivation)),
         Call::Plan { table, target } => (plain::plan(table, target).map_or_else(Refusal::number, |()| 0), vec![]),
+        Call::Complete { table, k, fixed, target } => one(plain::complete(table, *k, fixed, target)),
         Call::Check { instance, derivation, assignment, claimed, table } => {
             checked(plain::check(instance, derivation, assignment, *claimed, table))
         }
