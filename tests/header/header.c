@@ -1,4 +1,4 @@
-/* Prints what the header defines, and tries tables of exactly as many words as it says and of one fewer. */
+/* Prints what the header defines, and tries tables of exactly as many words as it says and of one fewer, and completions. */
 #include <stdio.h>
 #include <stdlib.h>
 
@@ -26,6 +26,7 @@ static void print_values(void)
     VALUE(GOTALHIM_WEIGHT_TOO_HIGH);
     VALUE(GOTALHIM_TABLE_FULL);
     VALUE(GOTALHIM_PAIR_LEFT);
+    VALUE(GOTALHIM_BAD_FIXED);
     VALUE(GOTALHIM_DONE);
     VALUE(GOTALHIM_PAUSED);
     VALUE(GOTALHIM_STOPPED);
@@ -74,6 +75,32 @@ static int agrees(uint32_t variables, uint32_t rows)
         && GOTALHIM_TABLE_ROWS(variables, words - 1) == (rows == 0 ? 0 : rows - 1);
 }
 
+/* The number of a completion with these fixed values, in a field whose first variable has one value that costs 1. */
+static uint32_t completed(uint32_t variables, size_t k, const uint8_t *fixed, size_t fixed_length,
+                          uint8_t *plan, uint64_t *cost)
+{
+    uint32_t instance[INSTANCE_WORDS], table[GOTALHIM_TABLE_WORDS(GOTALHIM_MAX_VARIABLES, 1)];
+    size_t words = GOTALHIM_TABLE_WORDS(variables, 1);
+    gotalhim_encode(instance, write_instance(instance, variables, 1), table, words, cost, 1);
+    return gotalhim_complete(table, words, k, fixed, fixed_length, plan, variables, cost, 1);
+}
+
+/* Whether values are completed as the header says: the first variable gets its value 1, or costs 1 where it is fixed at 0. */
+static int completes(uint32_t variables)
+{
+    const uint8_t fixed[GOTALHIM_MAX_VARIABLES + 1] = {0};
+    for (size_t k = 0; k <= variables; k++) {
+        uint8_t plan[GOTALHIM_MAX_VARIABLES] = {9};
+        uint64_t cost = 9;
+        if (completed(variables, k, fixed, variables - k, plan, &cost) != GOTALHIM_GOOD
+            || cost != (k == 0) || plan[0] != (k != 0)
+            || completed(variables, k, fixed, variables - k + 1, plan, &cost) != GOTALHIM_BAD_FIXED || cost != 0
+            || completed(variables, k + variables + 1, fixed, 0, plan, &cost) != GOTALHIM_BAD_FIXED)
+            return 0;
+    }
+    return 1;
+}
+
 int main(void)
 {
     print_values();
@@ -83,6 +110,11 @@ int main(void)
                 printf("a table of %u rows over %u variables does not agree\n", (unsigned)rows, (unsigned)variables);
                 return 1;
             }
+    for (uint32_t variables = 1; variables <= GOTALHIM_MAX_VARIABLES; variables++)
+        if (!completes(variables)) {
+            printf("a completion over %u variables does not agree\n", (unsigned)variables);
+            return 1;
+        }
     for (size_t words = 0; words < 30000; words += 100)
         printf("rows of %lu words: %lu %lu\n", (unsigned long)words, (unsigned long)GOTALHIM_TABLE_ROWS(1, words),
                (unsigned long)GOTALHIM_TABLE_ROWS(12, words));

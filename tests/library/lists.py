@@ -1,4 +1,4 @@
-"""Lists of encodings, steps, runs and plans through the proved library against the reference, word for word."""
+"""Lists of encodings, steps, runs, plans and completions through the proved library against the reference, word for word."""
 
 import itertools
 import random
@@ -29,7 +29,8 @@ SMALL_FIELDS = [
 DUE = ([("encode", number) for number in (0, 1, 2, 3, 4, 5, 10, 12)]
        + [("step", "done"), ("step", "stepped"), ("step", 9), ("step", 11), ("step", 12)]
        + [("run", "done"), ("run", "paused"), ("run", 9), ("run", 11), ("run", 12)]
-       + [("plan", number) for number in (0, 9, 10, 13)])
+       + [("plan", number) for number in (0, 9, 10, 13)]
+       + [("complete", number) for number in (0, 9, 10, 11, 13, 14)])
 reached = Counter()
 
 
@@ -74,6 +75,20 @@ def plan(table, target):
     same("plan", expected.number, proved.plan_call(table, target), expected)
 
 
+def complete(table, k, fixed, target, answer):
+    expected = reference.complete_call(table, k, fixed, target)
+    same("complete", expected.number, proved.complete_call(table, k, fixed, target, answer),
+         (expected.number, noted(answer, [expected.cost]), expected.target))
+
+
+def random_completion(table, variables, chance):
+    """Any k, at times one too high, and about as many small values as are left."""
+    k = chance.choice(list(range(variables + 1)) * 3 + [variables + 1, 2 ** 64 - 1])
+    fixed = [chance.choice([0, 0, 0, 1, 3]) for _ in range(variables - k + chance.choice([-1, 0, 0, 0, 0, 1]))]
+    complete(table, k, fixed, [200] * chance.choice([variables - 1, variables, variables, variables + 2]),
+             [77] * chance.choice([0, 1, 2]))
+
+
 def one_call(table, variables, chance):
     """Makes one random call on both sides; the table after it."""
     choice, answer = chance.random(), [77] * chance.choice([0, 1, 2, 3, 3, 5])
@@ -82,7 +97,10 @@ def one_call(table, variables, chance):
     if choice < 0.7:
         limit, room = chance.choice([0, 1, 2, 3, 40, 2 ** 64 - 1]), chance.choice([0, 1, 3, 3, 60])
         return run_steps(table, limit, [9] * room, answer)
-    plan(table, [200] * chance.choice([0, variables - 1, variables, variables, variables + 2]))
+    if choice < 0.85:
+        plan(table, [200] * chance.choice([0, variables - 1, variables, variables, variables + 2]))
+    else:
+        random_completion(table, variables, chance)
     return table
 
 
@@ -151,7 +169,8 @@ def heavy_list(chance):
 
 
 def to_the_end(field, rows, most):
-    """Runs of at most so many steps in a table of so many rows, until one makes none; then a step call and the plan."""
+    """Runs of at most so many steps in a table of so many rows, until one makes none; then a step call, the plan, and its
+    completions from zeros on."""
     sizes, entries = field
     table = encode(fields.instance(sizes, entries), [4] * fields.table_length(len(sizes), rows), [77])
     before = None
@@ -159,6 +178,8 @@ def to_the_end(field, rows, most):
         before, table = table, run_steps(table, most, [0] * most, [77, 77, 77])
     step(table, [77, 77])
     plan(table, [9] * len(sizes))
+    for k in range(len(sizes) + 1):
+        complete(table, k, [0] * (len(sizes) - k), [9] * len(sizes), [77])
 
 
 def step_by_step(field):
@@ -181,10 +202,11 @@ def twelve_variables(chance, most_values, reach):
 
 
 def every_call(table, variables):
-    """A step call, a run and a plan call on the same table."""
+    """A step call, a run, a plan call and a completion on the same table."""
     step(table, [77, 77])
     run_steps(table, 3, [9] * 4, [77, 77, 77])
     plan(table, [9] * variables)
+    complete(table, 1, [0] * (variables - 1), [9] * variables, [77])
 
 
 def at_the_bounds(chance):

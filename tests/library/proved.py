@@ -93,6 +93,12 @@ class Planned(NamedTuple):
     target: list
 
 
+class Completed(NamedTuple):
+    number: int
+    answer: list        # the cost
+    target: list
+
+
 class Readout(NamedTuple):
     number: int
     answer: list        # the metres
@@ -121,6 +127,14 @@ def plan_call(table, target):
     number = call("gotalhim_plan", [source, lent])
     require(source.content() == list(table), "a plan call wrote to the table")
     return Planned(number, lent.content())
+
+
+def complete_call(table, k, fixed, target, answer):
+    source, values, lent, cost = Slice(WORD, table), Slice(BYTE, fixed), Slice(BYTE, target), Slice(FIELD, answer)
+    number = call("gotalhim_complete", [source, SIZE(k), values, lent, cost])
+    require(source.content() == list(table), "a completion wrote to the table")
+    require(values.content() == list(fixed), "a completion wrote to the fixed values")
+    return Completed(number, cost.content(), lent.content())
 
 
 def readout_call(sheet, plan, variable, easting, northing, answer):

@@ -26,6 +26,7 @@ COMPARISONS = {
     "step": (lambda: lists.step(TABLE, [77, 77]), [0, 1]),
     "run": (lambda: lists.run_steps(TABLE, 5, [9] * 4, [77] * 3), [0, 2, 3]),
     "plan": (lambda: lists.plan(SETTLED, [9]), [0, 1]),
+    "complete": (lambda: lists.complete(SETTLED, 0, [0], [9], [77]), [0, 2, 3, 4]),
 }
 
 
