@@ -35,8 +35,9 @@ static size_t write_sheet(uint32_t *sheet)
 int main(void)
 {
     uint32_t sheet[20], instance[INSTANCE_WORDS], table[TABLE_WORDS], derivation[STEPS];
-    uint64_t written, rows, ran[3], replayed, metres;
-    uint8_t plan[VARIABLES];
+    uint64_t written, rows, ran[3], cost, replayed, metres;
+    uint8_t plan[VARIABLES], completed[VARIABLES];
+    const uint8_t cored[] = {0};
     size_t length = write_sheet(sheet);
 
     if (refused("make", gotalhim_make(sheet, length, instance, INSTANCE_WORDS, &written, 1))
@@ -51,6 +52,12 @@ int main(void)
         return 1;
     printf("cost %u after %u steps: values %u and %u\n",
            (unsigned)ran[2], (unsigned)ran[1], (unsigned)plan[0], (unsigned)plan[1]);
+
+    /* Variable 1 has been cored already, at its value 0. */
+    if (refused("complete", gotalhim_complete(table, TABLE_WORDS, 1, cored, 1, completed, VARIABLES, &cost, 1)))
+        return 1;
+    printf("cost %u once variable 1 is cored at its value 0: values %u and %u\n",
+           (unsigned)cost, (unsigned)completed[0], (unsigned)completed[1]);
 
     if (refused("check", gotalhim_check(instance, written, derivation, ran[1], plan, VARIABLES, ran[2],
                                         table, TABLE_WORDS, &replayed, 1))
