@@ -6,3 +6,4 @@ pub mod Placing
 pub mod Completing
 pub mod Order
 pub mod NothingFixed
+mod Witness

@@ -2,4 +2,5 @@
 pub mod Calls
 pub mod Order
 pub mod NothingFixed
+pub mod Witness
 pub mod Fixed

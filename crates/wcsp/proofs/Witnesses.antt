@@ -10,7 +10,7 @@ use Rattle.wcsp.specs.Clause.{falsifies, same, bucket}
 use Rattle.wcsp.specs.Row.{Row, falsified, merge}
 use Rattle.wcsp.specs.Rule.{conclusions, permitted}
 use Rattle.wcsp.specs.Resolve.{Pair, nextPair, lessen, movedWeight}
-use Rattle.wcsp.specs.Rebuild.{rebuilt}
+use Rattle.wcsp.specs.Rebuild.{rebuilt, tailWeight}
 use Rattle.wcsp.specs.Theorems.{falsifiedCount}
 
 row : List ℕ → ℕ → Row
@@ -79,3 +79,8 @@ variable = refl
 satisfied : rebuilt (2 ∷ 2 ∷ []) (row (2 ∷ 1 ∷ []) 1 ∷ []) ≡ 0 ∷ 0 ∷ []
 unfolding row has full lowest falsifies bucket rebuilt
 satisfied = refl
+
+-- of four rows the one with a variable below 1 does not count, nor the one that the value satisfies; the empty row does
+tail : tailWeight 1 (0 ∷ []) (row (2 ∷ 0 ∷ []) 8 ∷ row (0 ∷ 2 ∷ []) 2 ∷ row (0 ∷ 1 ∷ []) 4 ∷ row (0 ∷ 0 ∷ []) 1 ∷ []) ≡ 3
+unfolding row has falsifies bucket tailWeight
+tail = refl

@@ -18,12 +18,12 @@ abbrev μ-loop : tie.MeasureT-loop
 returns : tie.Need-returns Inv-loop μ-loop
 returns c =
     let s = c .before .before .before in
-    high-start (s .args .t .now) (s .pre .0) (s .args .n) (s .pre .1) (s .args .k) (s .args .fixed .now) (c .if1 .taken)
+    high-start (s .args .t .now) (s .pre .0) (s .args .n) (s .pre .1) (s .args .k) (s .args .fixed .now) (omega arith)
 
 returns-2 : tie.Need-returns-2 Inv-loop μ-loop
 returns-2 c =
     let s = c .before .before .before .before in
-    wrong-number (s .args .t .now) (s .pre .0) (s .args .n) (s .pre .1) (s .args .k) (s .args .fixed .now) (omega arith) (λ e. c .if2 .taken (omega arith))
+    wrong-number (s .args .t .now) (s .pre .0) (s .args .n) (s .pre .1) (s .args .k) (s .args .fixed .now) (omega arith) (λ e. omega arith)
 
 empty-requires : tie.Need-empty-requires Inv-loop μ-loop
 empty-requires c κs = search needs

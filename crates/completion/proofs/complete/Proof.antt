@@ -31,7 +31,7 @@ returns-2 c =
     let shaped = c .before .before .before in
     let called = shaped .before .before in
     let g = called .before .before .before .before .args in
-    too-short (g .t .now) (g .k) (g .fixed .now) (g .target .now) _ (called .check .ensures) _ (shaped .checked .given .1) (c .before .if1 .taken) _ (c .refusal2 .ensures)
+    too-short (g .t .now) (g .k) (g .fixed .now) (g .target .now) _ (called .check .ensures) _ (shaped .checked .given .1) (omega arith) _ (c .refusal2 .ensures)
 
 carry-requires : tie.Need-carry-requires
 carry-requires c κs =
@@ -132,7 +132,7 @@ place-requires c κs =
     let shaped = read .before .before .before in
     let called = shaped .before .before in
     let g = called .before .before .before .before .args in
-    place-room (g .t .now) (g .k) (g .fixed .now) (g .target .now) _ (called .check .ensures) _ (shaped .checked .given .1) (omega arith) _ (read .carry .ensures) _ (fitted .values .given .1)
+    omega (arith, place-room (g .t .now) (g .k) (g .fixed .now) (g .target .now) _ (called .check .ensures) _ (shaped .checked .given .1) (omega arith) _ (read .carry .ensures) _ (fitted .values .given .1))
 
 rebuild-requires : tie.Need-rebuild-requires
 rebuild-requires c κs =

@@ -37,7 +37,7 @@ returns c =
     let g = turn .before .before .args in
     let read = c .before .before .before .before .before .before .clause-of .ensures .0 in
     let low = c .before .before .before .before .before .lowest .ensures .0 in
-    above-all (g .t .now) (g .base) (g .count) (g .k) (g .fixed) (turn .loop .i) (turn .loop .sum) (turn .loop .inv) (omega arith) _ read _ low (c .before .before .before .before .if1 .taken) _ (c .before .before .before .apart .ensures) (c .before .before .if2 .taken) _ (c .before .weight-of .ensures .0) (c .if3 .taken)
+    above-all (g .t .now) (g .base) (g .count) (g .k) (g .fixed) (turn .loop .i) (turn .loop .sum) (turn .loop .inv) (omega arith) _ read _ low (omega arith) _ (c .before .before .before .apart .ensures) (c .before .before .if2 .taken) _ (c .before .weight-of .ensures .0) (omega arith)
 
 add-i : tie.Need-add-i Inv-loop μ-loop
 add-i c = omega arith
@@ -53,10 +53,10 @@ loop-again c =
     let low = c .before .lowest .ensures .0 in
     ⊎-elim
     (λ w. rw (w .5)
-    (one-more (g .t .now) (g .base) (g .count) (g .k) (g .fixed) (turn .loop .i) (turn .loop .sum) (turn .loop .inv) (omega arith) _ read _ low (w .0 .taken) _ (w .1 .ensures) (w .2 .taken) _ (w .3 .ensures .0) (w .4 .left)))
+    (one-more (g .t .now) (g .base) (g .count) (g .k) (g .fixed) (turn .loop .i) (turn .loop .sum) (turn .loop .inv) (omega arith) _ read _ low (omega (arith, w .0 .taken)) _ (w .1 .ensures) (w .2 .taken) _ (w .3 .ensures .0) (omega (arith, w .4 .left))))
     (λ w. rw (w .1) (⊎-elim
-    (λ u. satisfied (g .t .now) (g .base) (g .count) (g .k) (g .fixed) (turn .loop .i) (turn .loop .sum) (turn .loop .inv) (omega arith) _ read _ low (u .0 .taken) _ (u .1 .ensures) (u .2 .left))
-    (λ u. lower-variable (g .t .now) (g .base) (g .count) (g .k) (g .fixed) (turn .loop .i) (turn .loop .sum) (turn .loop .inv) (omega arith) _ read _ low (u .left))
+    (λ u. satisfied (g .t .now) (g .base) (g .count) (g .k) (g .fixed) (turn .loop .i) (turn .loop .sum) (turn .loop .inv) (omega arith) _ read _ low (omega (arith, u .0 .taken)) _ (u .1 .ensures) (u .2 .left))
+    (λ u. lower-variable (g .t .now) (g .base) (g .count) (g .k) (g .fixed) (turn .loop .i) (turn .loop .sum) (turn .loop .inv) (omega arith) _ read _ low (omega (arith, u .left)))
     (w .0 .came)))
     (c .if1 .came)
 
