@@ -148,11 +148,13 @@ uint32_t gotalhim_plan(const uint32_t *table, size_t table_length,
 /*
  * Completes a plan of which the values of the variables from k to n - 1 are fixed, without new steps: rebuilds the values
  * of the others from a table in which no pair is left. If the table comes from the encoding of an accepted instance by any
- * list of step calls, runs and plan calls, no plan with these fixed values costs less, its cost is the answer, and 11 does
- * not occur. With k = n no value is fixed: the plan is that of gotalhim_plan, and the cost is the bound.
+ * list of step calls, runs and plan calls, the plan that is written costs the answer, no plan with these fixed values
+ * costs less, and 11 does not occur. With k = n no value is fixed: the plan is that of gotalhim_plan, and the answer is
+ * the weight of the row without literals, 0 if there is none.
  * Tests, in this order: 9; 10 if the target is shorter than n bytes; 14; 13; 11.
- * Answer: the cost, which is the weight of the rows without variables below k that the fixed values falsify.
- * Memory: all n bytes of the plan in front of the target, the fixed ones as given, the rest kept.
+ * Answer: the weight of the rows without variables below k that the fixed values falsify.
+ * Memory: all n bytes of the plan in front of the target, the fixed ones as given, the rest kept. As everywhere, the fixed
+ * values must not lie in the target.
  */
 uint32_t gotalhim_complete(const uint32_t *table, size_t table_length,
                            size_t k,
