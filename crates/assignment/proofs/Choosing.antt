@@ -3,7 +3,7 @@
 use Prim.Native.Nat.{ℕ, zero, suc, _+_, _^_, _<_, _≤_}
 use native.Mathlib.Omega.{arith}
 use mathlib.Core.Path.{_≡_, refl, sym, ap, ap₂, _∙_}
-use mathlib.Core.List.{List, [], _∷_, _++_}
+use mathlib.Core.List.{List, _∷_, _++_}
 use mathlib.Core.Option.{none}
 use lib.ListN.{length, getD, take, drop, set, replicate, length-append, length-replicate, length-set, length-drop}
 use lib.Seq.{drop-append-le, drop-cons, drop-set-lt, getD-set-same, take-at}

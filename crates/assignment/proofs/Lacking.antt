@@ -1,21 +1,18 @@
 -- The variables that a table lacks have one value each. No valid row has a sign there, so they never count.
-use Prim.Native.Nat.{ℕ, zero, suc, _+_, _<_}
+use Prim.Native.Nat.{ℕ, zero, suc, _+_}
 use native.Mathlib.Omega.{arith}
 use mathlib.Core.Path.{_≡_, refl, ap, ap₂, _∙_}
 use mathlib.Core.Bool.{_&&_, not, cond}
 use mathlib.Core.List.{List, [], _∷_, _++_}
-use mathlib.Core.Option.{none}
-use lib.ListN.{length, getD, drop, replicate, length-append, length-replicate, getD-replicate}
-use lib.Seq.{drop-drop, getD-append-add}
+use lib.ListN.{length, getD, drop, replicate}
+use lib.Seq.{drop-drop}
 use lib.Bits.{bitAnd}
 use lib.Dec.{eqb}
 use Rattle.wcsp.specs.Sign.{full, has}
-use Rattle.wcsp.specs.Clause.{InRange, ValidClause, nil, cons, AllPositive, nilPositive, consPositive, bucket, falsifies}
+use Rattle.wcsp.specs.Clause.{ValidClause, nil, cons, bucket, falsifies}
 use Rattle.wcsp.specs.Row.{Row, ValidRows, nilRows, consRows}
-use Rattle.wcsp.specs.Resolve.{nextPair}
-use Rattle.wcsp.specs.Rebuild.{counts, narrowed, rebuiltValue, rebuiltOver, rebuilt}
+use Rattle.wcsp.specs.Rebuild.{counts, narrowed}
 use Rattle.wcsp.proofs.EmptyRow.{falsifies-empty}
-use Rattle.wcsp.proofs.Rebuilding.{value-in-range}
 
 no-signs : (m : ℕ) (c : List ℕ) → ValidClause (replicate m 1) c → c ≡ replicate m 0
 unfolding full

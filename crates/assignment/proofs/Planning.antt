@@ -18,7 +18,7 @@ use Rattle.fields.specs.Padding.{lacking}
 use Rattle.table.specs.declared.Shape.{Shape}
 use Rattle.table.specs.declared.Checked.{Checked}
 use Rattle.table.specs.declared.Checked.the-variants.{Table, Invalid}
-use Rattle.table.specs.Meaning.{variablesOf, tableSizes, ownRows}
+use Rattle.table.specs.Meaning.{variablesOf, tableSizes}
 use Rattle.table.specs.Valid.{validTable}
 use Rattle.table.specs.Check.{shapeOf, checkTable}
 use Rattle.table.proofs.Finishing.{valid-variables}

@@ -7,7 +7,6 @@ use mathlib.Core.List.{List, _++_}
 use lib.ListN.{length, getD, take, drop, set, take-append-drop, length-take, length-drop, List·getD-map}
 use lib.Seq.{slice, drop-append-le}
 use lib.Count.{trailingZeros}
-use lib.Pow.{pow-mono}
 use Rattle.wcsp.specs.Sign.{full}
 use Rattle.wcsp.specs.Row.{ValidRows}
 use Rattle.wcsp.specs.Rebuild.{narrowed}
@@ -27,6 +26,7 @@ use Rattle.table.proofs.Own.{own-widens, own-next}
 use Rattle.table.proofs.Finishing.{valid-variables, valid-room}
 use Rattle.assignment.specs.Calls.{tableCompletion}
 use Rattle.assignment.specs.Chosen.{Carries, Ready}
+use Rattle.assignment.proofs.Bit.{shifted}
 use Rattle.assignment.proofs.Choosing.{Settled, Chosen, given-chosen, value-small, one-more, all-chosen}
 
 -- ---- what a valid table says
@@ -129,22 +129,13 @@ module _ (t : List ℕ) (shape : Shape) (from : ℕ) (given : Clause) (target₀
           value-small (tableSizes t) (lacking (tableSizes t)) (tableRows t) settled from values target₀ k (signsOf chosen) target before F S full-here
           narrowed-here
 
-      bits : 2 ^ trailingZeros 32 S ≤ 128
-      bits = let b = value-bound in pow-mono {i = trailingZeros 32 S} {j = 7} (omega arith)
-
-      shifted : 1 * 2 ^ trailingZeros 32 S % 4294967296 ≡ 2 ^ trailingZeros 32 S
-      shifted = omega (arith, bits)
-
-      pub bit-small : 1 * 2 ^ trailingZeros 32 S % 4294967296 < 256
-      bit-small = omega (arith, shifted, bits)
-
       pub again : (next : Clause) → Holds next (set (signsOf chosen) k (1 * 2 ^ trailingZeros 32 S % 4294967296))
           → Rebuilding t from target₀ (set target k (trailingZeros 32 S)) next k
       unfolding domains padded
       again next h =
           record {
             packed = h .packed;
-            so-far = rw (h .signsAre, shifted)
+            so-far = rw (h .signsAre, shifted (trailingZeros 32 S) value-bound)
                 (one-more (tableSizes t) (lacking (tableSizes t)) (tableRows t) settled from values target₀ k (signsOf chosen) target before F S full-here
                 narrowed-here place-within);
           }

@@ -20,7 +20,7 @@ use Rattle.rows.specs.Raw.{rowWidth, maxWeight}
 use Rattle.table.specs.declared.Shape.{Shape}
 use Rattle.table.specs.declared.Checked.{Checked}
 use Rattle.table.specs.declared.Checked.the-variants.{Table, Invalid}
-use Rattle.table.specs.Meaning.{variablesOf, tableSizes, rowsFrom, tableRows, ownRows}
+use Rattle.table.specs.Meaning.{variablesOf, tableSizes, rowsFrom}
 use Rattle.table.specs.Valid.{validTable}
 use Rattle.table.specs.Check.{shapeOf, checkTable}
 use Rattle.table.proofs.Own.{own-widens}

@@ -1,16 +1,15 @@
 -- The carrying of the fixed values, turn by turn from the last down: what is carried so far are the values from variable i on, and they are in range.
-use Prim.Native.Nat.{ℕ, zero, suc, _+_, _*_, _%_, _^_, _<_, _≤_}
+use Prim.Native.Nat.{ℕ, suc, _+_, _*_, _%_, _^_, _<_, _≤_}
 use native.Mathlib.Omega.{arith}
-use mathlib.Core.Path.{_≡_, refl, sym, ap, _∙_}
+use mathlib.Core.Path.{_≡_, sym, ap, _∙_}
 use mathlib.Core.Bool.{true}
-use mathlib.Core.List.{List, [], _∷_, _++_, map}
-use lib.ListN.{length, getD, take, drop, set, replicate, drop-of-length-le, replicate-append-replicate, List·getD-map}
+use mathlib.Core.List.{List, [], _∷_, _++_}
+use lib.ListN.{length, getD, take, drop, set, replicate, replicate-append-replicate, List·getD-map}
 use lib.Seq.{drop-cons, drop-length, getD-take, getD-drop}
-use lib.Pow.{pow-mono}
 use Rattle.wcsp.specs.Clause.{InRange, nil, cons}
 use Rattle.words.specs.Layout.{payloadOf}
 use Rattle.clause.specs.declared.Clause.{Clause}
-use Rattle.clause.specs.Packed.{signsOf, FitsBlocks, Holds}
+use Rattle.clause.specs.Packed.{signsOf, Holds}
 use Rattle.fields.specs.Padding.{lacking}
 use Rattle.fields.proofs.Padding.{sizes-at}
 use Rattle.table.specs.Meaning.{variablesOf, tableSizes}
@@ -18,10 +17,10 @@ use Rattle.table.specs.Valid.{validTable}
 use Rattle.table.proofs.Canonical.{twelveIsCanonical}
 use Rattle.table.proofs.Finishing.{valid-variables}
 use Rattle.assignment.specs.Chosen.{singles, carriedSigns}
+use Rattle.assignment.proofs.Bit.{shifted}
 use Rattle.assignment.proofs.Choosing.{set-below}
 use Rattle.assignment.proofs.Tables.{few-sizes}
 use Rattle.completion.specs.declared.FixedValues.the-variants.{Carried, Unfit}
-use Rattle.completion.specs.Calls.{fixedFit}
 use Rattle.completion.specs.Fixed.{Carrying}
 use Rattle.completion.proofs.Fitting.{fits-of, above-all, other-number, too-high, unfit, carried}
 
@@ -82,20 +81,8 @@ module _ (t : List ℕ) (v : validTable t ≡ true) (n : ℕ) (variables : n ≡
             unfit ds k fixed (too-high ds k fixed at value-there (rw w (omega (arith, size-here))))
 
         module _ (h : getD fixed at 0 < d) where
-          value-low : getD fixed at 0 < 8
+          pub value-low : getD fixed at 0 < 8
           value-low = omega (arith, size-here, sizes-at (twelveIsCanonical t v .holdable .sizes) i)
-
-          bits : 2 ^ getD fixed at 0 ≤ 128
-          bits = let b = value-low in pow-mono {i = getD fixed at 0} {j = 7} (omega arith)
-
-          pub shift-low : getD fixed at 0 < 32
-          shift-low = omega (arith, value-low)
-
-          shifted : 1 * 2 ^ getD fixed at 0 % 4294967296 ≡ 2 ^ getD fixed at 0
-          shifted = omega (arith, bits)
-
-          pub bit-small : 1 * 2 ^ getD fixed at 0 % 4294967296 < 256
-          bit-small = omega (arith, shifted, bits)
 
           pub one-more : (next : Clause) → Holds next (set (signsOf chosen) i (1 * 2 ^ getD fixed at 0 % 4294967296)) → CarriedFrom ds k fixed i next
           one-more next w =
@@ -110,7 +97,7 @@ module _ (t : List ℕ) (v : validTable t ≡ true) (n : ℕ) (variables : n ≡
                 last = omega (arith, c .last);
                 holds = record {
                   packed = w .packed;
-                  signsAre = w .signsAre ∙ rw (shifted, before, after)
+                  signsAre = w .signsAre ∙ rw (shifted (getD fixed at 0) value-low, before, after)
                       (set-below i (2 ^ getD fixed at 0) (singles (drop (suc at) fixed) ++ replicate (lacking ds) 0));
                 };
                 inRange = rw (drop-cons ds i 0 (omega (arith, c .last)), after) (cons {a = getD ds i 0} {b = getD fixed at 0} (omega (arith, size-here)) higher);

@@ -9,7 +9,7 @@ use mathlib.Core.Bool.{Bool, true, false, _&&_, cond}
 use mathlib.Core.List.{List, [], _∷_, append-nil}
 use lib.ListN.{length, drop, replicate, length-drop}
 use lib.Seq.{drop-append-le}
-use lib.Dec.{eqb, leb, leb·zero, leb·suc-zero, leb·suc-suc}
+use lib.Dec.{eqb, leb, leb·zero, leb·suc-suc}
 use borrow.Author.Tests.{le-leb, lt-leb}
 use Rattle.wcsp.specs.Clause.{falsifies, same, bucket}
 use Rattle.wcsp.specs.Row.{Row, falsified, weightOf, emptyWeight, ValidRows, nilRows, consRows}

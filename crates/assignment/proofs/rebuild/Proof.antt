@@ -1,8 +1,8 @@
 -- `rebuild` meets its contract: the values from k on are chosen, and the rest is rebuilt over them.
 use Prim.Native.Nat.{_-_}
 use native.Mathlib.Omega.{arith}
-use borrow.Author.Needs.{needs}
-use Rattle.assignment.proofs.Tables.{Rebuilding, few-variables, fulls-packed, rows-within, start, variable-low, place-within, value-bound, bit-small, again, finished}
+use Rattle.assignment.proofs.Bit.{bit-small}
+use Rattle.assignment.proofs.Tables.{Rebuilding, few-variables, fulls-packed, rows-within, start, variable-low, place-within, value-bound, again, finished}
 use Rattle.assignment.proofs.rebuild.Statement.{statement}
 use Rattle.assignment.proofs.rebuild.Tie as tie
 
@@ -65,7 +65,7 @@ replaced-requires : tie.Need-replaced-requires Inv-loop μ-loop
 replaced-requires c κs =
     let s = c .before .before .before .before .before .before .before .before in
     let l = c .before .before .before .loop in
-    (l .inv .packed, variable-low (s .args .t .now) (s .args .shape) (s .args .k) (s .args .given) (s .args .target .now) (s .pre) (l .target) (l .chosen) (l .i) (l .i - 1) (omega arith) (l .inv), bit-small (s .args .t .now) (s .args .shape) (s .args .k) (s .args .given) (s .args .target .now) (s .pre) (l .target) (l .chosen) (l .i) (l .i - 1) (omega arith) (l .inv) _ _ (c .before .sign .ensures .0) (c .narrow .ensures))
+    (l .inv .packed, variable-low (s .args .t .now) (s .args .shape) (s .args .k) (s .args .given) (s .args .target .now) (s .pre) (l .target) (l .chosen) (l .i) (l .i - 1) (omega arith) (l .inv), bit-small _ (value-bound (s .args .t .now) (s .args .shape) (s .args .k) (s .args .given) (s .args .target .now) (s .pre) (l .target) (l .chosen) (l .i) (l .i - 1) (omega arith) (l .inv) _ _ (c .before .sign .ensures .0) (c .narrow .ensures)))
 
 loop-less : tie.Need-loop-less Inv-loop μ-loop
 loop-less c = omega arith

@@ -4,8 +4,9 @@ use native.Mathlib.Omega.{arith}
 use borrow.Author.Needs.{needs}
 use Rattle.table.specs.Meaning.{tableSizes}
 use Rattle.table.proofs.Finishing.{valid-variables, valid-room}
+use Rattle.assignment.proofs.Bit.{bit-small}
 use Rattle.assignment.proofs.Tables.{few-sizes}
-use Rattle.completion.proofs.Turns.{CarriedFrom, high-start, wrong-number, none-carried, variable-low, value-there, out-of-range, shift-low, bit-small, one-more, all-carried}
+use Rattle.completion.proofs.Turns.{CarriedFrom, high-start, wrong-number, none-carried, variable-low, value-there, out-of-range, value-low, one-more, all-carried}
 use Rattle.completion.proofs.carry.Statement.{statement}
 use Rattle.completion.proofs.carry.Tie as tie
 
@@ -84,14 +85,14 @@ shl-replaced c =
     let s = c .before .before .before .before .before .before .before .before .before .before .before .before in
     let l = c .before .before .before .before .before .before .loop in
     let w = c .before .before .before .wide .ensures .0 in
-    omega (arith, w, shift-low (s .args .t .now) (s .pre .0) (s .args .n) (s .pre .1) (s .args .k) (s .args .fixed .now) (omega arith) (omega arith) (l .i) (l .i - 1) (omega arith) (omega arith) (l .chosen) (l .inv) (l .i - 1 - s .args .k) (omega arith) _ (c .before .payload .ensures .0) (omega (arith, w)))
+    omega (arith, w, value-low (s .args .t .now) (s .pre .0) (s .args .n) (s .pre .1) (s .args .k) (s .args .fixed .now) (omega arith) (omega arith) (l .i) (l .i - 1) (omega arith) (omega arith) (l .chosen) (l .inv) (l .i - 1 - s .args .k) (omega arith) _ (c .before .payload .ensures .0) (omega (arith, w)))
 
 replaced-requires : tie.Need-replaced-requires Inv-loop μ-loop
 replaced-requires c κs =
     let s = c .before .before .before .before .before .before .before .before .before .before .before .before in
     let l = c .before .before .before .before .before .before .loop in
     let w = c .before .before .before .wide .ensures .0 in
-    (l .inv .holds .packed, variable-low (s .args .t .now) (s .pre .0) (s .args .n) (s .pre .1) (s .args .k) (s .args .fixed .now) (omega arith) (omega arith) (l .i) (l .i - 1) (omega arith) (omega arith) (l .chosen) (l .inv) (l .i - 1 - s .args .k) (omega arith), rw w (bit-small (s .args .t .now) (s .pre .0) (s .args .n) (s .pre .1) (s .args .k) (s .args .fixed .now) (omega arith) (omega arith) (l .i) (l .i - 1) (omega arith) (omega arith) (l .chosen) (l .inv) (l .i - 1 - s .args .k) (omega arith) _ (c .before .payload .ensures .0) (omega (arith, w))))
+    (l .inv .holds .packed, variable-low (s .args .t .now) (s .pre .0) (s .args .n) (s .pre .1) (s .args .k) (s .args .fixed .now) (omega arith) (omega arith) (l .i) (l .i - 1) (omega arith) (omega arith) (l .chosen) (l .inv) (l .i - 1 - s .args .k) (omega arith), rw w (bit-small _ (value-low (s .args .t .now) (s .pre .0) (s .args .n) (s .pre .1) (s .args .k) (s .args .fixed .now) (omega arith) (omega arith) (l .i) (l .i - 1) (omega arith) (omega arith) (l .chosen) (l .inv) (l .i - 1 - s .args .k) (omega arith) _ (c .before .payload .ensures .0) (omega (arith, w)))))
 
 loop-less : tie.Need-loop-less Inv-loop μ-loop
 loop-less c = omega arith
