@@ -180,7 +180,8 @@ uint32_t gotalhim_complete(const uint32_t *table, size_t table_length,
  * Proved wherever the number is 0: the table is valid, and the step words are the way to it from the encoding, each the
  * next step. For every plan, the weights of the rows that it falsifies add up to its cost, so the bound is above no
  * plan's cost. There are no more steps than a number fixed by the instance. While a pair is left, nothing but 12 stops
- * a further step. Once none is left, gotalhim_plan writes a plan of least cost, and the bound is that cost.
+ * a further step. Once none is left, gotalhim_plan writes a plan of least cost, and the bound is that cost;
+ * gotalhim_complete writes one of least cost among those with the fixed values.
  */
 uint32_t gotalhim_drive(const uint32_t *instance, size_t instance_length,
                         uint32_t *table, size_t table_length,
