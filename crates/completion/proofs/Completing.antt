@@ -32,11 +32,11 @@ use Rattle.assignment.specs.Chosen.{carriedSigns, Carries, Ready}
 use Rattle.assignment.proofs.Tables.{few-sizes, variables-are, rows-within, rows-are}
 use Rattle.assignment.proofs.Planning.{left-none}
 use Rattle.completion.specs.declared.FixedValues.{FixedValues}
-use Rattle.completion.specs.declared.FixedValues.the-variants.{Carried, Unfit}
+use Rattle.completion.specs.declared.FixedValues.the-variants.{Fit, Unfit}
 use Rattle.completion.specs.declared.TailSum.{TailSum}
-use Rattle.completion.specs.declared.TailSum.the-variants.{Total, TooHigh}
+use Rattle.completion.specs.declared.TailSum.the-variants.{Summed, TooHigh}
 use Rattle.completion.specs.Calls.{CompleteReturned, notCompleted, fixedFit, completionCost, completeOn, completeCall}
-use Rattle.completion.specs.Fixed.{Carrying, totalOf}
+use Rattle.completion.specs.Fixed.{Carrying, limitedSum}
 use Rattle.completion.proofs.Fitting.{of-fits, one-each}
 use Rattle.completion.proofs.Summing.{told-high, told-total}
 use Rattle.completion.proofs.Placing.{put-length, put-values, put-rest}
@@ -109,7 +109,7 @@ module _ (t : List ℕ) (k : ℕ) (fixed target : List ℕ) (checked : Checked) 
       pub not-fitting : read ≡ Unfit → (r : Answer) → r ≡ refused 14 → CompleteLeft t k fixed target r target
       not-fitting e r f = refusing t k fixed target 14 r f (call-unfit t k fixed target (told .0) in-target (carrying .unfitting e))
 
-      module _ (values : Clause) (fitting : read ≡ Carried values) where
+      module _ (values : Clause) (fitting : read ≡ Fit values) where
         fits : fixedFit (tableSizes t) k fixed ≡ true
         fits = carrying .fitting values fitting .0
 
@@ -135,26 +135,26 @@ module _ (t : List ℕ) (k : ℕ) (fixed target : List ℕ) (checked : Checked) 
               (call-on t k fixed target (told .0) in-target fits ∙ on-left t k fixed target (tablePair t) (sym asked ∙ e))
 
           module _ (e : left ≡ false) (sum : TailSum)
-              (summed : (q : List ℕ) → Carries (signsOf values) k q → sum ≡ totalOf (tailWeight k q (rowsFrom (shape .count) (drop (shape .variables + 2) t)))) where
+              (summed : (q : List ℕ) → Carries (signsOf values) k q → sum ≡ limitedSum (tailWeight k q (rowsFrom (shape .count) (drop (shape .variables + 2) t)))) where
             none-left : tablePair t ≡ none
             none-left = left-none (tablePair t) (sym e ∙ asked)
 
             on-none : completeCall t k fixed target ≡ completeOn t k fixed target none
             on-none = call-on t k fixed target (told .0) in-target fits ∙ ap (completeOn t k fixed target) none-left
 
-            sum-is : sum ≡ totalOf (completionCost t k fixed)
+            sum-is : sum ≡ limitedSum (completionCost t k fixed)
             unfolding completionCost
             sum-is =
                 summed fixed (record { rest = lacking (tableSizes t); bits = holds .signsAre })
-                ∙ ap (λ rs. totalOf (tailWeight k fixed rs)) (rows-are t (told .0) shape (told .1))
-                ∙ ap totalOf (own-widens t (told .0) .tail k fixed (one-each (tableSizes t) k fixed fits))
+                ∙ ap (λ rs. limitedSum (tailWeight k fixed rs)) (rows-are t (told .0) shape (told .1))
+                ∙ ap limitedSum (own-widens t (told .0) .tail k fixed (one-each (tableSizes t) k fixed fits))
 
             pub too-dear : sum ≡ TooHigh → (r : Answer) → r ≡ refused 11 → CompleteLeft t k fixed target r target
             too-dear h r f =
                 refusing t k fixed target 11 r f
                 (on-none ∙ on-high t k fixed target (told-high (completionCost t k fixed) (sym h ∙ sum-is)))
 
-            module _ (cost : ℕ) (h : sum ≡ Total cost) (put : List ℕ) (placed : put ≡ paste target k fixed (length fixed)) where
+            module _ (cost : ℕ) (h : sum ≡ Summed cost) (put : List ℕ) (placed : put ≡ paste target k fixed (length fixed)) where
               given : slice k (variablesOf t) put ≡ fixed
               given = ap (slice k (variablesOf t)) placed ∙ put-values target (variablesOf t) k fixed long in-target
 

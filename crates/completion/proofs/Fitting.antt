@@ -16,7 +16,7 @@ use Rattle.fields.specs.Assignment.{isAssignment}
 use Rattle.fields.proofs.Assigning.{in-range-of, assignment-of}
 use Rattle.assignment.specs.Chosen.{carriedSigns}
 use Rattle.completion.specs.declared.FixedValues.{FixedValues}
-use Rattle.completion.specs.declared.FixedValues.the-variants.{Carried, Unfit}
+use Rattle.completion.specs.declared.FixedValues.the-variants.{Fit, Unfit}
 use Rattle.completion.specs.Calls.{fixedFit}
 use Rattle.completion.specs.Fixed.{Carrying}
 
@@ -64,12 +64,12 @@ module _ (ds : List ℕ) (k : ℕ) (fixed : List ℕ) where
     unfitting = λ f. e;
   }
 
-  pub carried : (chosen : Clause) → fixedFit ds k fixed ≡ true → Holds chosen (carriedSigns ds k fixed) → Carrying ds k fixed (Carried chosen)
+  pub carried : (chosen : Clause) → fixedFit ds k fixed ≡ true → Holds chosen (carriedSigns ds k fixed) → Carrying ds k fixed (Fit chosen)
   carried chosen e h = record {
     fitting = λ values f. (e, rw (← ap clause f) h);
     unfitting = λ f. absurd (let z : _≡_ {A = ℕ} 0 1 = cc in omega arith);
   }
     where
       clause : FixedValues → Clause
-      clause (Carried x) = x
+      clause (Fit x) = x
       clause Unfit = chosen

@@ -23,15 +23,15 @@ use Rattle.hunt.proofs.TableRows.{rowsIn, in-rows, signs-read}
 use Rattle.assignment.specs.Chosen.{disjoint, Carries}
 use Rattle.assignment.proofs.Disjoint.{disjoint-falsifies}
 use Rattle.completion.specs.declared.TailSum.{TailSum}
-use Rattle.completion.specs.declared.TailSum.the-variants.{Total, TooHigh}
-use Rattle.completion.specs.Fixed.{totalOf}
+use Rattle.completion.specs.declared.TailSum.the-variants.{Summed, TooHigh}
+use Rattle.completion.specs.Fixed.{limitedSum}
 
-pub sum-low : (m : ℕ) → m ≤ maxWeight → totalOf m ≡ Total m
-unfolding totalOf
+pub sum-low : (m : ℕ) → m ≤ maxWeight → limitedSum m ≡ Summed m
+unfolding limitedSum
 sum-low m h = rw (le-ltb maxWeight m h)
 
-pub sum-high : (m : ℕ) → maxWeight < m → totalOf m ≡ TooHigh
-unfolding totalOf
+pub sum-high : (m : ℕ) → maxWeight < m → limitedSum m ≡ TooHigh
+unfolding limitedSum
 sum-high m h = rw (lt-ltb maxWeight m h)
 
 tail-none : (k : ℕ) (q : List ℕ) (rs : List Row) (i : ℕ) → length rs ≤ i → tailWeight k q (drop i rs) ≡ 0
@@ -90,36 +90,36 @@ module _ (t : List ℕ) (base count k : ℕ) (fixed : Clause) where
             = tail-yes k q row rest (ap (falsifiesFrom k q) read ∙ answered q c ∙ f) in
             omega (arith, s .whole q c, ap (tailWeight k q) here, one, weight-at t base count i h)
 
-        pub above-all : maxWeight < sum + w → Over (λ q. TooHigh ≡ totalOf (tailWeight k q (rowsIn t base count)))
+        pub above-all : maxWeight < sum + w → Over (λ q. TooHigh ≡ limitedSum (tailWeight k q (rowsIn t base count)))
         above-all b q c = sym (sum-high (tailWeight k q (rowsIn t base count)) (omega (arith, added q c)))
 
         pub one-more : sum + w ≤ maxWeight → Sum (i + 1) (sum + w)
         one-more b = record { low = b; whole = λ q c. rw add-one (added q c) }
 
-  pub all-summed : (i sum : ℕ) → Sum i sum → count ≤ i → Over (λ q. Total sum ≡ totalOf (tailWeight k q (rowsIn t base count)))
+  pub all-summed : (i sum : ℕ) → Sum i sum → count ≤ i → Over (λ q. Summed sum ≡ limitedSum (tailWeight k q (rowsIn t base count)))
   all-summed i sum s h q c =
       let l : length (rowsIn t base count) ≤ i = omega (arith, length-rowsFrom count (drop base t)) in
       let m : sum ≡ tailWeight k q (rowsIn t base count) = omega (arith, s .whole q c, tail-none k q (rowsIn t base count) i l) in
-      ap Total m ∙ sym (sum-low (tailWeight k q (rowsIn t base count)) (omega (arith, s .low)))
+      ap Summed m ∙ sym (sum-low (tailWeight k q (rowsIn t base count)) (omega (arith, s .low)))
 
 -- ---- what the sum says
 
 abbrev total : TailSum → ℕ
-total (Total m) = m
+total (Summed m) = m
 total TooHigh = 0
 
-pub told-high : (m : ℕ) → TooHigh ≡ totalOf m → ltb maxWeight m ≡ true
-unfolding totalOf
+pub told-high : (m : ℕ) → TooHigh ≡ limitedSum m → ltb maxWeight m ≡ true
+unfolding limitedSum
 told-high m e = go (ltb maxWeight m) e
   where
-    go : (b : Bool) → TooHigh ≡ cond b TooHigh (Total m) → b ≡ true
+    go : (b : Bool) → TooHigh ≡ cond b TooHigh (Summed m) → b ≡ true
     go true f = refl
     go false f = let z : _≡_ {A = ℕ} 0 1 = cc in absurd (omega arith)
 
-pub told-total : (m cost : ℕ) → Total cost ≡ totalOf m → (ltb maxWeight m ≡ false) × (cost ≡ m)
-unfolding totalOf
+pub told-total : (m cost : ℕ) → Summed cost ≡ limitedSum m → (ltb maxWeight m ≡ false) × (cost ≡ m)
+unfolding limitedSum
 told-total m cost e = go (ltb maxWeight m) e
   where
-    go : (b : Bool) → Total cost ≡ cond b TooHigh (Total m) → (b ≡ false) × (cost ≡ m)
+    go : (b : Bool) → Summed cost ≡ cond b TooHigh (Summed m) → (b ≡ false) × (cost ≡ m)
     go true f = let z : _≡_ {A = ℕ} 0 1 = cc in absurd (omega arith)
     go false f = (refl, ap total f)

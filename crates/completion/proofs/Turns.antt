@@ -20,7 +20,7 @@ use Rattle.assignment.specs.Chosen.{singles, carriedSigns}
 use Rattle.assignment.proofs.Bit.{shifted}
 use Rattle.assignment.proofs.Choosing.{set-below}
 use Rattle.assignment.proofs.Tables.{few-sizes}
-use Rattle.completion.specs.declared.FixedValues.the-variants.{Carried, Unfit}
+use Rattle.completion.specs.declared.FixedValues.the-variants.{Fit, Unfit}
 use Rattle.completion.specs.Fixed.{Carrying}
 use Rattle.completion.proofs.Fitting.{fits-of, above-all, other-number, too-high, unfit, carried}
 
@@ -104,7 +104,7 @@ module _ (t : List ℕ) (v : validTable t ≡ true) (n : ℕ) (variables : n ≡
               }
 
     -- all are carried
-    pub all-carried : (i : ℕ) (chosen : Clause) → i ≤ k → CarriedFrom ds k fixed i chosen → Carrying ds k fixed (Carried chosen)
+    pub all-carried : (i : ℕ) (chosen : Clause) → i ≤ k → CarriedFrom ds k fixed i chosen → Carrying ds k fixed (Fit chosen)
     all-carried i chosen h c =
         let z : c .number ≡ 0 = omega (arith, c .placed) in
         let w : i ≡ k = omega (arith, c .placed) in

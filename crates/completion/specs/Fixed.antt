@@ -9,16 +9,16 @@ use Rattle.clause.specs.Packed.{Holds}
 use Rattle.rows.specs.Raw.{maxWeight}
 use Rattle.assignment.specs.Chosen.{carriedSigns}
 use Rattle.completion.specs.declared.FixedValues.{FixedValues}
-use Rattle.completion.specs.declared.FixedValues.the-variants.{Carried, Unfit}
+use Rattle.completion.specs.declared.FixedValues.the-variants.{Fit, Unfit}
 use Rattle.completion.specs.declared.TailSum.{TailSum}
-use Rattle.completion.specs.declared.TailSum.the-variants.{Total, TooHigh}
+use Rattle.completion.specs.declared.TailSum.the-variants.{Summed, TooHigh}
 use Rattle.completion.specs.Calls.{fixedFit}
 
 -- the clause carries the values if they fit, and they are unfit only if they do not
 pub record Carrying (ds : List ℕ) (k : ℕ) (fixed : List ℕ) (answer : FixedValues) : Type 0 where
-  pub fitting : (values : Clause) → answer ≡ Carried values → (fixedFit ds k fixed ≡ true) × Holds values (carriedSigns ds k fixed)
+  pub fitting : (values : Clause) → answer ≡ Fit values → (fixedFit ds k fixed ≡ true) × Holds values (carriedSigns ds k fixed)
   pub unfitting : answer ≡ Unfit → fixedFit ds k fixed ≡ false
 
 -- a sum up to the greatest weight
-unfoldable pub totalOf : ℕ → TailSum
-totalOf m = cond (ltb maxWeight m) TooHigh (Total m)
+unfoldable pub limitedSum : ℕ → TailSum
+limitedSum m = cond (ltb maxWeight m) TooHigh (Summed m)

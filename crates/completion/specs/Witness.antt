@@ -31,24 +31,24 @@ heaviestStarted =
     tableWords (rowsAt 1 + 3 * rowWidth) (2 ∷ []) (rowOver (0 ∷ []) maxWeight ∷ rowOver (2 ∷ []) 1 ∷ rowOver (1 ∷ []) 1 ∷ [])
 
 -- a good call into a target of two bytes and one more, which is kept
-abbrev pub completes : ℕ → ℕ → ℕ → CompleteReturned
-completes m v w = record { answer = good m; target = v ∷ w ∷ 9 ∷ [] }
+abbrev pub completedAt : ℕ → ℕ → ℕ → CompleteReturned
+completedAt m v w = record { answer = good m; target = v ∷ w ∷ 9 ∷ [] }
 
 abbrev pub lentBytes : List ℕ
 lentBytes = 7 ∷ 8 ∷ 9 ∷ []
 
 pub record Completions : Type 0 where
   -- nothing fixed: the plan and the empty row's weight, which is 0
-  pub free : completeCall p3Done 2 [] lentBytes ≡ completes 0 0 1
+  pub free : completeCall p3Done 2 [] lentBytes ≡ completedAt 0 0 1
   -- the last value fixed: row 0, 2 counts for value 0
-  pub lastAt0 : completeCall p3Done 1 (0 ∷ []) lentBytes ≡ completes 1 1 0
-  pub lastAt1 : completeCall p3Done 1 (1 ∷ []) lentBytes ≡ completes 0 0 1
+  pub lastAt0 : completeCall p3Done 1 (0 ∷ []) lentBytes ≡ completedAt 1 1 0
+  pub lastAt1 : completeCall p3Done 1 (1 ∷ []) lentBytes ≡ completedAt 0 0 1
   -- all values fixed: their own cost
-  pub allAt0 : completeCall p3Done 0 (0 ∷ 0 ∷ []) lentBytes ≡ completes 2 0 0
-  pub allAt1 : completeCall p3Done 0 (1 ∷ 1 ∷ []) lentBytes ≡ completes 0 1 1
+  pub allAt0 : completeCall p3Done 0 (0 ∷ 0 ∷ []) lentBytes ≡ completedAt 2 0 0
+  pub allAt1 : completeCall p3Done 0 (1 ∷ 1 ∷ []) lentBytes ≡ completedAt 0 1 1
   -- the greatest weight is a good cost, and one more is 11
-  pub greatest : completeCall heaviest 0 (1 ∷ []) (7 ∷ []) ≡ record { answer = good maxWeight; target = 1 ∷ [] }
-  pub above : completeCall heaviest 0 (0 ∷ []) (7 ∷ []) ≡ notCompleted 11 (7 ∷ [])
+  pub atGreatest : completeCall heaviest 0 (1 ∷ []) (7 ∷ []) ≡ record { answer = good maxWeight; target = 1 ∷ [] }
+  pub aboveGreatest : completeCall heaviest 0 (0 ∷ []) (7 ∷ []) ≡ notCompleted 11 (7 ∷ [])
   -- 10 before 14: a short target and values that do not fit
   pub shortFirst : completeCall p3Done 3 [] (7 ∷ []) ≡ notCompleted 10 (7 ∷ [])
   -- 14 before 13: each of its conditions, a pair being left
@@ -56,8 +56,8 @@ pub record Completions : Type 0 where
   pub oneTooFew : completeCall p3Started 1 [] lentBytes ≡ notCompleted 14 lentBytes
   pub outOfRange : completeCall p3Started 1 (2 ∷ []) lentBytes ≡ notCompleted 14 lentBytes
   -- 13, also before 11
-  pub early : completeCall p3Started 1 (1 ∷ []) lentBytes ≡ notCompleted 13 lentBytes
-  pub earlyFirst : completeCall heaviestStarted 0 (0 ∷ []) (7 ∷ []) ≡ notCompleted 13 (7 ∷ [])
+  pub pairLeft : completeCall p3Started 1 (1 ∷ []) lentBytes ≡ notCompleted 13 lentBytes
+  pub pairLeftFirst : completeCall heaviestStarted 0 (0 ∷ []) (7 ∷ []) ≡ notCompleted 13 (7 ∷ [])
   -- by the list of tests, too
   pub testedShort : firstOf (testsOfComplete p3Done 3 [] (7 ∷ [])) ≡ 10
   pub testedUnfit : firstOf (testsOfComplete p3Started 3 [] lentBytes) ≡ 14

@@ -12,20 +12,20 @@ ghost use Rattle.table.specs.Meaning.{variablesOf, tableSizes, rowsFrom};
 ghost use Rattle.table.specs.Valid.{validTable};
 ghost use Rattle.assignment.specs.Chosen.{Carries};
 ghost use Rattle.completion.specs.Calls.{completeCall};
-ghost use Rattle.completion.specs.Fixed.{Carrying, totalOf};
+ghost use Rattle.completion.specs.Fixed.{Carrying, limitedSum};
 use clause::Clause;
 use fields::Answer;
 use table::Checked;
 
 // The fixed values, carried by a clause, if they fit the table's sizes.
 pub enum FixedValues {
-    Carried(Clause),
+    Fit(Clause),
     Unfit,
 }
 
 // The sum of weights, if it is at most the greatest weight of a row.
 pub enum TailSum {
-    Total(u64),
+    Summed(u64),
     TooHigh,
 }
 
@@ -50,13 +50,13 @@ fn carry(t: &[u32], n: usize, k: usize, fixed: &[u8]) -> FixedValues
         }
         chosen = chosen.replaced(i as u32, 1u32 << value);
     }
-    FixedValues::Carried(chosen)
+    FixedValues::Fit(chosen)
 }
 
 // The weight of the rows without variables below k that the carried values falsify. A sum above the greatest weight ends the loop, so it never overflows.
 fn tail_weight(t: &[u32], base: usize, count: usize, k: u32, fixed: Clause) -> TailSum
     requires { ⌜ base + rowWidth * count ≤ length (now t) ⌝ }
-    ensures { λ r. ⌜ ((q : List ℕ) → Carries (signsOf fixed) k q → r ≡ totalOf (tailWeight k q (rowsFrom count (drop base (now (t .entry)))))) ⌝ }
+    ensures { λ r. ⌜ ((q : List ℕ) → Carries (signsOf fixed) k q → r ≡ limitedSum (tailWeight k q (rowsFrom count (drop base (now (t .entry)))))) ⌝ }
 {
     let mut sum = 0;
     let mut i = 0;
@@ -70,7 +70,7 @@ fn tail_weight(t: &[u32], base: usize, count: usize, k: u32, fixed: Clause) -> T
         }
         i += 1;
     }
-    TailSum::Total(sum)
+    TailSum::Summed(sum)
 }
 
 // The fixed values at their places in the target.
@@ -97,13 +97,13 @@ pub fn complete(t: &[u32], k: usize, fixed: &[u8], target: &mut [u8]) -> Answer
     if target.len() < n {
         return fields::refusal(10);
     }
-    let FixedValues::Carried(values) = carry(t, n, k, fixed) else {
+    let FixedValues::Fit(values) = carry(t, n, k, fixed) else {
         return fields::refusal(14);
     };
     if assignment::pair_left(t, shape) {
         return fields::refusal(13);
     }
-    let TailSum::Total(cost) = tail_weight(t, n + 2, shape.count, k as u32, values) else {
+    let TailSum::Summed(cost) = tail_weight(t, n + 2, shape.count, k as u32, values) else {
         return fields::refusal(11);
     };
     place(target, k, fixed);
