@@ -37,7 +37,7 @@ int main(void)
     uint32_t sheet[20], instance[INSTANCE_WORDS], table[TABLE_WORDS], derivation[STEPS];
     uint64_t written, rows, ran[3], cost, replayed, metres;
     uint8_t plan[VARIABLES], completed[VARIABLES];
-    const uint8_t cored[] = {0};
+    const uint8_t fixed[] = {0};
     size_t length = write_sheet(sheet);
 
     if (refused("make", gotalhim_make(sheet, length, instance, INSTANCE_WORDS, &written, 1))
@@ -53,10 +53,10 @@ int main(void)
     printf("cost %u after %u steps: values %u and %u\n",
            (unsigned)ran[2], (unsigned)ran[1], (unsigned)plan[0], (unsigned)plan[1]);
 
-    /* Variable 1 has been cored already, at its value 0. */
-    if (refused("complete", gotalhim_complete(table, TABLE_WORDS, 1, cored, 1, completed, VARIABLES, &cost, 1)))
+    /* The value of variable 1 is fixed already, at 0. */
+    if (refused("complete", gotalhim_complete(table, TABLE_WORDS, 1, fixed, 1, completed, VARIABLES, &cost, 1)))
         return 1;
-    printf("cost %u once variable 1 is cored at its value 0: values %u and %u\n",
+    printf("cost %u once variable 1 is fixed at its value 0: values %u and %u\n",
            (unsigned)cost, (unsigned)completed[0], (unsigned)completed[1]);
 
     if (refused("check", gotalhim_check(instance, written, derivation, ran[1], plan, VARIABLES, ran[2],

@@ -144,16 +144,15 @@ def greatest_costs(both):
 def most_rows(both):
     """As many rows as there may be, whose weights add up to the greatest, to one more, to powers of two, and far beyond; the row
     that makes the difference is the first or the last."""
-    light, spread = [65_535] * (MAX_ROWS - 1), MAX_ROWS - 1
-    for weights in ([65_535 + spread] + light, light + [65_535 + spread], [65_536 + spread] + light, light + [65_536 + spread],
-                    [1 << 16] * MAX_ROWS, [1 << 20] * MAX_ROWS, [MAX_WEIGHT] * MAX_ROWS):
+    heavy = [[first] + [other] * (MAX_ROWS - 1) for first, other in fields.HEAVY_ROWS]
+    for weights in heavy + [weights[::-1] for weights in heavy[:2]]:
         table = table_words([8] * 12, fields.settled_rows(weights), fields.table_length(12, MAX_ROWS, spare=3))
         zeros_cost(both, table, 0, sum(weights))
         zeros_cost(both, table, 8, 0)
 
 
 def with_weights(chance, table):
-    """The table with other weights, which are no matter for a pair: light ones, heavy ones, or both."""
+    """The table with other weights, which decide nothing about a pair: light ones, heavy ones, or both."""
     sizes, rows = read_table(table)
     weights = chance.choice([[1, 2, 3], [MAX_WEIGHT], [1, MAX_WEIGHT - 1, MAX_WEIGHT], [MAX_WEIGHT // 8, MAX_WEIGHT // 3]])
     return table_words(sizes, [Row(row.signs, chance.choice(weights)) for row in rows], len(table))

@@ -61,10 +61,9 @@ def completion_calls():
 
 
 def heavy_completions():
-    """As many rows as there may be, whose weights add up to the greatest one, to one more, to powers of two, and far beyond."""
+    """As many rows as there may be, zeros falsifying all of them or none."""
     made = []
-    for first, other in [(65_535 + 4_095, 65_535), (65_535 + 4_096, 65_535), (1 << 16, 1 << 16), (1 << 20, 1 << 20),
-                         (MAX_WEIGHT, MAX_WEIGHT)]:
+    for first, other in fields.HEAVY_ROWS:
         rows = fields.settled_rows([first] + [other] * (MAX_ROWS - 1))
         table = table_words([8] * 12, rows, fields.table_length(12, MAX_ROWS))
         made += [calls.complete(table, k, [0] * (12 - k), [9] * 12) for k in (0, 8)]

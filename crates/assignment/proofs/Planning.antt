@@ -30,7 +30,7 @@ use Rattle.assignment.proofs.Tables.{few-sizes, variables-are}
 
 -- what the call returns and leaves
 abbrev pub PlanLeft : List ℕ → List ℕ → ℕ → List ℕ → Type 0
-PlanLeft t target number left = _≡_ {A = PlanReturned} (record { number = number; target = left }) (planCall t target)
+PlanLeft t target number after = _≡_ {A = PlanReturned} (record { number = number; target = after }) (planCall t target)
 
 -- ---- whether a pair is left
 
@@ -66,12 +66,12 @@ pub nothing-over : (t : List ℕ) → validTable t ≡ true → tableCompletion 
 unfolding tableCompletion tableAssignment rebuilt
 nothing-over t v = ap (λ n. tableCompletion t n []) (sym (valid-variables t v))
 
-none-carried : (t : List ℕ) → validTable t ≡ true → replicate 12 0 ≡ carriedSigns (tableSizes t) (variablesOf t) []
+pub none-carried : (t : List ℕ) → validTable t ≡ true → replicate 12 0 ≡ carriedSigns (tableSizes t) (variablesOf t) []
 none-carried t v =
     let n : 12 ≡ variablesOf t + lacking (tableSizes t) = omega (arith, few-sizes t v, valid-variables t v) in
     ap (λ i. replicate i 0) n ∙ sym (replicate-append-replicate (variablesOf t) (lacking (tableSizes t)) 0)
 
-none-in-range : (t : List ℕ) → validTable t ≡ true → InRange (drop (variablesOf t) (tableSizes t)) []
+pub none-in-range : (t : List ℕ) → validTable t ≡ true → InRange (drop (variablesOf t) (tableSizes t)) []
 none-in-range t v = rw (← valid-variables t v, drop-length) nil
 
 -- ---- the returns
@@ -109,16 +109,16 @@ module _ (t : List ℕ) (checked : Checked) (answer : checked ≡ checkTable t) 
               shaped = told .1;
               done = none-left;
               room = in-target;
-              few = le-refl (variablesOf t);
+              low = le-refl (variablesOf t);
               inRange = rw (slice-empty (variablesOf t) target) (none-in-range t (told .0));
               carried = rw (slice-empty (variablesOf t) target, ← none-carried t (told .0)) h;
             })
 
-        pub rebuilt-all : (left : List ℕ)
-            → left ≡ tableCompletion t (shape .variables) (slice (shape .variables) (variablesOf t) target) ++ drop (variablesOf t) target
-            → PlanLeft t target 0 left
+        pub rebuilt-all : (after : List ℕ)
+            → after ≡ tableCompletion t (shape .variables) (slice (shape .variables) (variablesOf t) target) ++ drop (variablesOf t) target
+            → PlanLeft t target 0 after
         unfolding planOn
-        rebuilt-all left q =
+        rebuilt-all after q =
             let w = slice-empty (variablesOf t) target in
             let p = rw (variables, w, nothing-over t (told .0)) at q in
             ap (λ l. record { number = 0; target = l }) p ∙ sym (call-on t target (told .0) in-target ∙ ap (planOn t target) none-left)

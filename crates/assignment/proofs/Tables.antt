@@ -87,16 +87,16 @@ module _ (t : List ℕ) (shape : Shape) (from : ℕ) (given : Clause) (target₀
         done = own-next t (ready .valid) ∙ ready .done;
       }
 
-  low : from ≤ length (tableSizes t)
-  low = omega (arith, valid-variables t (ready .valid), ready .few)
+  start-low : from ≤ length (tableSizes t)
+  start-low = omega (arith, valid-variables t (ready .valid), ready .low)
 
   pub start : Rebuilding t from target₀ target₀ given from
   start =
       record {
         packed = ready .carried .packed;
-        so-far = given-chosen (tableSizes t) (lacking (tableSizes t)) (tableRows t) settled from values (signsOf given) target₀ low (ready .inRange)
+        so-far = given-chosen (tableSizes t) (lacking (tableSizes t)) (tableRows t) settled from values (signsOf given) target₀ start-low (ready .inRange)
             (ready .carried .signsAre)
-            (values-stand (variablesOf t) from target₀ (ready .room) (ready .few)
+            (values-stand (variablesOf t) from target₀ (ready .room) (ready .low)
             ∙ ap (λ n. values ++ drop n target₀) (sym (valid-variables t (ready .valid))));
       }
 
@@ -148,4 +148,4 @@ module _ (t : List ℕ) (shape : Shape) (from : ℕ) (given : Clause) (target₀
       ∙ ap₂ (λ p n. p ++ drop n target₀) (own-widens t (ready .valid) .ownCompleted from values counted) (valid-variables t (ready .valid))
     where
       counted : from + length values ≡ length (tableSizes t)
-      counted = omega (arith, low, along-length (ready .inRange), length-drop from (tableSizes t))
+      counted = omega (arith, start-low, along-length (ready .inRange), length-drop from (tableSizes t))

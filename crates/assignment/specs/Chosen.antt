@@ -44,6 +44,6 @@ pub record Ready (t : List ℕ) (shape : Shape) (k : ℕ) (given : Clause) (targ
   pub shaped : shape ≡ shapeOf t
   pub done : tablePair t ≡ none
   pub room : variablesOf t ≤ length target
-  pub few : k ≤ variablesOf t
+  pub low : k ≤ variablesOf t
   pub inRange : InRange (drop k (tableSizes t)) (slice k (variablesOf t) target)
   pub carried : Holds given (carriedSigns (tableSizes t) k (slice k (variablesOf t) target))

@@ -1,4 +1,4 @@
--- Demand 3 as one statement: a record whose fields are its sentences, for every accepted instance, every table that takes its
+-- Demand 3 as one statement: a record whose fields are its sentences, and document 02's of completions, for every accepted instance, every table that takes its
 -- encoding and every list of calls.
 use Prim.Native.Nat.{ℕ, _≤_, _<_, min}
 use mathlib.Core.Path.{_≡_}
@@ -96,11 +96,11 @@ pub record Upheld (ds : List ℕ) (es : List Entry) (from : List Row) (t′ ws :
   -- and a complete call (document 02), for every k and every fixed tail in range, is good, so never 11: it answers the falsified weight of the
   -- rows without variables below k and writes the assignment rebuilt over the fixed values, which keeps them and has that cost, and none that
   -- has them costs less
-  pub completed : (k : ℕ) (fixed target : List ℕ) → length ds ≤ length target → k ≤ length ds → InRange (drop k ds) fixed
+  pub completed : (k : ℕ) (given target : List ℕ) → length ds ≤ length target → k ≤ length ds → InRange (drop k ds) given
       → nextPair ds (ownRows t′) ≡ none
-      → let plan = rebuiltOver ds (ownRows t′) k fixed in
-      let m = tailWeight k fixed (ownRows t′) in
-      (completeCall t′ k fixed target ≡ record { answer = good m; target = plan ++ drop (length ds) target }) × BestFrom ds es k fixed plan m
+      → let plan = rebuiltOver ds (ownRows t′) k given in
+      let m = tailWeight k given (ownRows t′) in
+      (completeCall t′ k given target ≡ record { answer = good m; target = plan ++ drop (length ds) target }) × BestFrom ds es k given plan m
 
 -- the table t′ and the derivation ws that calls left of an encoding of inst in t: the slice is as long, and the steps started from the encoding
 abbrev pub UpheldFrom : List ℕ → List ℕ → List ℕ → List ℕ → Type 0

@@ -4,7 +4,7 @@ use mathlib.Core.Path.{_≡_}
 use mathlib.Core.List.{List, [], _∷_, _++_, map}
 use mathlib.Core.Option.{Option, none, some}
 use lib.ListN.{length, replicate, take, drop}
-use Rattle.wcsp.specs.Row.{Row}
+use Rattle.wcsp.specs.Row.{Row, _weighted_}
 use Rattle.words.specs.Layout.{headWord, sizeWord, bindingWord, costWord}
 use Rattle.fields.specs.declared.Answer.{Answer}
 use Rattle.fields.specs.Answers.{good}
@@ -19,7 +19,6 @@ use Rattle.assignment.specs.Calls.{PlanReturned, planCall}
 use Rattle.checker.specs.declared.CheckAnswer.{CheckAnswer}
 use Rattle.checker.specs.Calls.{checkCall}
 
-infix 80 _weighted_
 -- what a case gives: the words of an instance, encoded in a slice of so many words, or a table's words as they stand
 pub data CaseWords : Type 0 where
   instanceIn : ℕ → List ℕ → CaseWords
@@ -98,10 +97,6 @@ wordsComputed c =
       planned = p;
       checked = ifInstance (c .given) (λ len inst. checkOf len inst r p);
     }
-
--- how the table writes a row
-abbrev pub _weighted_ : List ℕ → ℕ → Row
-signs weighted w = record { signs = signs; weight = w }
 
 abbrev pub p1 : List ℕ
 p1 = headWord 1 ∷ sizeWord 2 ∷ bindingWord 0 0 ∷ costWord 3 ∷ bindingWord 0 1 ∷ costWord 1 ∷ []

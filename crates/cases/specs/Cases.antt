@@ -4,7 +4,7 @@ use mathlib.Core.Path.{_≡_}
 use mathlib.Core.List.{List, [], _∷_, map}
 use mathlib.Core.Option.{Option, none, some}
 use lib.ListN.{length}
-use Rattle.wcsp.specs.Row.{Row, emptyWeight}
+use Rattle.wcsp.specs.Row.{Row, emptyWeight, _weighted_}
 use Rattle.wcsp.specs.Entry.{Entry, Binding, encoded}
 use Rattle.wcsp.specs.Resolve.{Pair, nextPair, resolve}
 use Rattle.wcsp.specs.Rebuild.{rebuilt}
@@ -100,9 +100,6 @@ v is a = record { variable = v; value = a }
 abbrev pub entryWith : List Binding → ℕ → Entry
 entryWith bs n = record { bindings = bs; cost = n }
 
-abbrev pub rowWith : List ℕ → ℕ → Row
-rowWith signs w = record { signs = signs; weight = w }
-
 -- The values are document 01's, of P8 document 02's; those that 01 leaves out are worked out by hand from its rules.
 unfoldable pub cases : List Case
 cases =
@@ -110,9 +107,9 @@ cases =
     ofField (record {
       sizes = 2 ∷ [];
       start = fromEntries (entryWith (0 is 0 ∷ []) 3 ∷ entryWith (0 is 1 ∷ []) 1 ∷ []);
-      before = rowWith (2 ∷ []) 3 ∷ rowWith (1 ∷ []) 1 ∷ [];
+      before = (2 ∷ []) weighted 3 ∷ (1 ∷ []) weighted 1 ∷ [];
       steps = 1;
-      after = rowWith (2 ∷ []) 2 ∷ rowWith (0 ∷ []) 1 ∷ [];
+      after = (2 ∷ []) weighted 2 ∷ (0 ∷ []) weighted 1 ∷ [];
       assignment = 1 ∷ [];
       least = 1;
     })
@@ -120,9 +117,9 @@ cases =
     ∷ ofField (record {
       sizes = 3 ∷ [];
       start = fromEntries (entryWith (0 is 0 ∷ []) 2 ∷ entryWith (0 is 1 ∷ []) 1 ∷ entryWith (0 is 2 ∷ []) 4 ∷ []);
-      before = rowWith (6 ∷ []) 2 ∷ rowWith (5 ∷ []) 1 ∷ rowWith (3 ∷ []) 4 ∷ [];
+      before = (6 ∷ []) weighted 2 ∷ (5 ∷ []) weighted 1 ∷ (3 ∷ []) weighted 4 ∷ [];
       steps = 3;
-      after = rowWith (3 ∷ []) 2 ∷ rowWith (2 ∷ []) 1 ∷ rowWith (0 ∷ []) 1 ∷ [];
+      after = (3 ∷ []) weighted 2 ∷ (2 ∷ []) weighted 1 ∷ (0 ∷ []) weighted 1 ∷ [];
       assignment = 1 ∷ [];
       least = 1;
     })
@@ -130,9 +127,9 @@ cases =
     ∷ ofField (record {
       sizes = 2 ∷ 2 ∷ [];
       start = fromEntries (entryWith (0 is 0 ∷ 1 is 0 ∷ []) 2 ∷ entryWith (0 is 1 ∷ 1 is 0 ∷ []) 1 ∷ []);
-      before = rowWith (2 ∷ 2 ∷ []) 2 ∷ rowWith (1 ∷ 2 ∷ []) 1 ∷ [];
+      before = (2 ∷ 2 ∷ []) weighted 2 ∷ (1 ∷ 2 ∷ []) weighted 1 ∷ [];
       steps = 1;
-      after = rowWith (2 ∷ 2 ∷ []) 1 ∷ rowWith (0 ∷ 2 ∷ []) 1 ∷ [];
+      after = (2 ∷ 2 ∷ []) weighted 1 ∷ (0 ∷ 2 ∷ []) weighted 1 ∷ [];
       assignment = 0 ∷ 1 ∷ [];
       least = 0;
     })
@@ -140,9 +137,9 @@ cases =
     ∷ ofField (record {
       sizes = 2 ∷ 2 ∷ [];
       start = fromEntries (entryWith (0 is 0 ∷ []) 1 ∷ entryWith (0 is 1 ∷ 1 is 0 ∷ []) 1 ∷ []);
-      before = rowWith (2 ∷ 0 ∷ []) 1 ∷ rowWith (1 ∷ 2 ∷ []) 1 ∷ [];
+      before = (2 ∷ 0 ∷ []) weighted 1 ∷ (1 ∷ 2 ∷ []) weighted 1 ∷ [];
       steps = 1;
-      after = rowWith (0 ∷ 2 ∷ []) 1 ∷ rowWith (2 ∷ 1 ∷ []) 1 ∷ [];
+      after = (0 ∷ 2 ∷ []) weighted 1 ∷ (2 ∷ 1 ∷ []) weighted 1 ∷ [];
       assignment = 1 ∷ 1 ∷ [];
       least = 0;
     })
@@ -150,9 +147,9 @@ cases =
     ∷ ofField (record {
       sizes = 1 ∷ [];
       start = fromEntries (entryWith (0 is 0 ∷ []) 7 ∷ []);
-      before = rowWith (0 ∷ []) 7 ∷ [];
+      before = (0 ∷ []) weighted 7 ∷ [];
       steps = 0;
-      after = rowWith (0 ∷ []) 7 ∷ [];
+      after = (0 ∷ []) weighted 7 ∷ [];
       assignment = 0 ∷ [];
       least = 7;
     })
@@ -161,10 +158,10 @@ cases =
     -- P7: signs 3 and 2 of one variable, with three values so that neither is full: the first contains the second
     ∷ ofField (record {
       sizes = 3 ∷ [];
-      start = fromRows (rowWith (3 ∷ []) 1 ∷ rowWith (2 ∷ []) 1 ∷ []);
-      before = rowWith (3 ∷ []) 1 ∷ rowWith (2 ∷ []) 1 ∷ [];
+      start = fromRows ((3 ∷ []) weighted 1 ∷ (2 ∷ []) weighted 1 ∷ []);
+      before = (3 ∷ []) weighted 1 ∷ (2 ∷ []) weighted 1 ∷ [];
       steps = 0;
-      after = rowWith (3 ∷ []) 1 ∷ rowWith (2 ∷ []) 1 ∷ [];
+      after = (3 ∷ []) weighted 1 ∷ (2 ∷ []) weighted 1 ∷ [];
       assignment = 1 ∷ [];
       least = 0;
     })

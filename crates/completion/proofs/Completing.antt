@@ -36,14 +36,15 @@ use Rattle.completion.specs.declared.FixedValues.the-variants.{Fit, Unfi
 use Rattle.completion.specs.declared.TailSum.{TailSum}
 use Rattle.completion.specs.declared.TailSum.the-variants.{Summed, TooHigh}
 use Rattle.completion.specs.Calls.{CompleteReturned, notCompleted, fixedFit, completionCost, completeOn, completeCall}
-use Rattle.completion.specs.Fixed.{Carrying, limitedSum}
+use Rattle.completion.specs.Fixed.{Carrying}
+use Rattle.completion.specs.Limited.{limitedSum}
 use Rattle.completion.proofs.Fitting.{of-fits, one-each}
 use Rattle.completion.proofs.Summing.{told-high, told-total}
 use Rattle.completion.proofs.Placing.{put-length, put-values, put-rest}
 
 -- what the call returns and leaves
 abbrev pub CompleteLeft : List ℕ → ℕ → List ℕ → List ℕ → Answer → List ℕ → Type 0
-CompleteLeft t k fixed target answer left = _≡_ {A = CompleteReturned} (record { answer = answer; target = left }) (completeCall t k fixed target)
+CompleteLeft t k fixed target answer after = _≡_ {A = CompleteReturned} (record { answer = answer; target = after }) (completeCall t k fixed target)
 
 -- ---- the definition's cases
 
@@ -165,17 +166,17 @@ module _ (t : List ℕ) (k : ℕ) (fixed target : List ℕ) (checked : Checked) 
                     shaped = told .1;
                     done = none-left;
                     room = omega (arith, in-target, ap length placed, put-length target (variablesOf t) k fixed long in-target);
-                    few = omega (arith, long);
+                    low = omega (arith, long);
                     inRange = rw given (of-fits (tableSizes t) k fixed fits .1);
                     carried = rw given holds;
                   }
 
-              pub completed : (left : List ℕ) → left ≡ tableCompletion t k (slice k (variablesOf t) put) ++ drop (variablesOf t) put
-                  → (r : Answer) → r ≡ good cost → CompleteLeft t k fixed target r left
-              completed left q r f =
+              pub completed : (after : List ℕ) → after ≡ tableCompletion t k (slice k (variablesOf t) put) ++ drop (variablesOf t) put
+                  → (r : Answer) → r ≡ good cost → CompleteLeft t k fixed target r after
+              completed after q r f =
                   let (low, m) = told-total (completionCost t k fixed) cost (sym h ∙ sum-is) in
                   let rest : drop (variablesOf t) put ≡ drop (variablesOf t) target
                   = ap (drop (variablesOf t)) placed ∙ put-rest target (variablesOf t) k fixed long in-target in
-                  let p : left ≡ tableCompletion t k fixed ++ drop (variablesOf t) target
+                  let p : after ≡ tableCompletion t k fixed ++ drop (variablesOf t) target
                   = q ∙ ap₂ (λ l d. tableCompletion t k l ++ d) given rest in
                   ap₂ (λ a l. record { answer = a; target = l }) (f ∙ ap good m) p ∙ sym (on-none ∙ on-good t k fixed target low)

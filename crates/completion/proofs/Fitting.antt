@@ -34,9 +34,9 @@ module _ (ds : List ℕ) (k : ℕ) (fixed : List ℕ) where
     in-range-of (drop k ds) fixed (and-right (leb k (length ds)) (isAssignment (drop k ds) fixed) e),
   )
 
-  pub above-all : length ds < k → fixedFit ds k fixed ≡ false
+  pub k-above : length ds < k → fixedFit ds k fixed ≡ false
   unfolding fixedFit
-  above-all h = rw (lt-leb k (length ds) h)
+  k-above h = rw (lt-leb k (length ds) h)
 
   -- one value for each variable from k on
   pub one-each : fixedFit ds k fixed ≡ true → k + length fixed ≡ length ds

@@ -1,6 +1,6 @@
 -- What the proofs rest on: which fixed values fit, the laws of each loop's turns, and the call's returns.
 pub mod Fitting
-pub mod Turns
+pub mod CarryTurns
 pub mod Summing
 pub mod Placing
 pub mod Completing

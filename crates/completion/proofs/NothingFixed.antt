@@ -4,16 +4,14 @@ use Prim.Native.Nat.{ℕ, _≤_}
 use native.Mathlib.Omega.{arith}
 use mathlib.Core.Path.{_≡_, refl, ap}
 use mathlib.Core.Bool.{Bool, true, false, cond}
-use mathlib.Core.List.{List, [], _∷_, _++_}
+use mathlib.Core.List.{List, [], _++_}
 use mathlib.Core.Option.{Option, none, some}
 use lib.ListN.{length, drop, replicate}
-use lib.Seq.{drop-length}
 use lib.Dec.{ltb}
-use borrow.Author.Tests.{le-ltb, ltb-false}
-use Rattle.wcsp.specs.Clause.{nil, same}
-use Rattle.wcsp.specs.Row.{Row, weightOf, emptyWeight, heavy}
+use borrow.Author.Tests.{le-ltb}
+use Rattle.wcsp.specs.Row.{emptyWeight}
 use Rattle.wcsp.specs.Resolve.{Pair}
-use Rattle.wcsp.proofs.Lists.{or-left, or-right}
+use Rattle.wcsp.proofs.TooHeavy.{heavy-weightOf}
 use Rattle.wcsp.proofs.Tails.{tailOfNone}
 use Rattle.rows.specs.Raw.{maxWeight}
 use Rattle.table.specs.Meaning.{variablesOf, tableSizes, ownRows}
@@ -22,29 +20,18 @@ use Rattle.table.proofs.Finishing.{valid-variables}
 use Rattle.table.proofs.Own.{validIsCanonical}
 use Rattle.assignment.specs.Calls.{PlanReturned, planOn, planCall}
 use Rattle.assignment.specs.Order.{isLeft, tablePair}
-use Rattle.assignment.proofs.Planning.{nothing-over}
+use Rattle.assignment.proofs.Planning.{nothing-over, none-in-range}
 use Rattle.completion.specs.Calls.{CompleteReturned, notCompleted, fixedFit, completionCost, completeOn, completeCall}
 use Rattle.completion.specs.NothingFixed.{NothingFixed}
 use Rattle.completion.proofs.Fitting.{fits-of}
 use Rattle.completion.proofs.Completing.{on-left, on-good}
-
--- ---- no row is too heavy
-
-light-weight : (L : ℕ) (c : List ℕ) (rs : List Row) → heavy L rs ≡ false → weightOf c rs ≤ L
-unfolding heavy weightOf
-light-weight L c [] e = omega arith
-light-weight L c (r ∷ rs) e = go (same (r .signs) c) (light-weight L c rs (or-right (ltb L (r .weight)) (heavy L rs) e))
-  where
-    go : (b : Bool) → weightOf c rs ≤ L → cond b (r .weight) (weightOf c rs) ≤ L
-    go true ih = ltb-false L (r .weight) (or-left (ltb L (r .weight)) (heavy L rs) e)
-    go false ih = ih
 
 module _ (t : List ℕ) (v : validTable t ≡ true) where
   abbrev n : ℕ
   n = variablesOf t
 
   none-fits : fixedFit (tableSizes t) n [] ≡ true
-  none-fits = fits-of (tableSizes t) n [] (omega (arith, valid-variables t v)) (rw (← valid-variables t v, drop-length) nil)
+  none-fits = fits-of (tableSizes t) n [] (omega (arith, valid-variables t v)) (none-in-range t v)
 
   empty-cost : completionCost t n [] ≡ emptyWeight n (ownRows t)
   unfolding completionCost
@@ -52,7 +39,7 @@ module _ (t : List ℕ) (v : validTable t ≡ true) where
 
   cost-low : completionCost t n [] ≤ maxWeight
   unfolding emptyWeight
-  cost-low = rw empty-cost (light-weight maxWeight (replicate n 0) (ownRows t) (validIsCanonical t v .holdable .light))
+  cost-low = rw empty-cost (heavy-weightOf maxWeight (replicate n 0) (ownRows t) (validIsCanonical t v .holdable .light))
 
 -- ---- case by case
 

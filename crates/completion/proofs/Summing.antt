@@ -24,7 +24,7 @@ use Rattle.assignment.specs.Chosen.{disjoint, Carries}
 use Rattle.assignment.proofs.Disjoint.{disjoint-falsifies}
 use Rattle.completion.specs.declared.TailSum.{TailSum}
 use Rattle.completion.specs.declared.TailSum.the-variants.{Summed, TooHigh}
-use Rattle.completion.specs.Fixed.{limitedSum}
+use Rattle.completion.specs.Limited.{limitedSum}
 
 pub sum-low : (m : ℕ) → m ≤ maxWeight → limitedSum m ≡ Summed m
 unfolding limitedSum
@@ -38,10 +38,10 @@ tail-none : (k : ℕ) (q : List ℕ) (rs : List Row) (i : ℕ) → length rs ≤
 unfolding tailWeight
 tail-none k q rs i h = rw (drop-of-length-le rs h)
 
-module _ (t : List ℕ) (base count k : ℕ) (fixed : Clause) where
+module _ (t : List ℕ) (base count k : ℕ) (values : Clause) where
   -- P holds of all values that the clause carries
   abbrev pub Over : (List ℕ → Type 0) → Type 0
-  Over P = (q : List ℕ) → Carries (signsOf fixed) k q → P q
+  Over P = (q : List ℕ) → Carries (signsOf values) k q → P q
 
   -- the sum is that of the rows before i, and no higher than the greatest weight
   pub record Sum (i sum : ℕ) : Type 0 where
@@ -75,10 +75,10 @@ module _ (t : List ℕ) (base count k : ℕ) (fixed : Clause) where
     pub lower-variable : low < k → Sum (i + 1) sum
     lower-variable b = passed (λ q c. from-below k q (signsOf x) (omega (arith, l)))
 
-    module _ (b : k ≤ low) (apart : Bool) (answer : apart ≡ disjoint (signsOf x) (signsOf fixed)) where
+    module _ (b : k ≤ low) (apart : Bool) (answer : apart ≡ disjoint (signsOf x) (signsOf values)) where
       answered : Over (λ q. falsifiesFrom k q (signsOf x) ≡ apart)
       answered q c =
-          from-here k q (signsOf x) (omega (arith, l)) ∙ sym (disjoint-falsifies (signsOf x) (signsOf fixed) k q c) ∙ sym answer
+          from-here k q (signsOf x) (omega (arith, l)) ∙ sym (disjoint-falsifies (signsOf x) (signsOf values) k q c) ∙ sym answer
 
       pub satisfied : apart ≡ false → Sum (i + 1) sum
       satisfied f = passed (λ q c. answered q c ∙ f)
@@ -90,8 +90,8 @@ module _ (t : List ℕ) (base count k : ℕ) (fixed : Clause) where
             = tail-yes k q row rest (ap (falsifiesFrom k q) read ∙ answered q c ∙ f) in
             omega (arith, s .whole q c, ap (tailWeight k q) here, one, weight-at t base count i h)
 
-        pub above-all : maxWeight < sum + w → Over (λ q. TooHigh ≡ limitedSum (tailWeight k q (rowsIn t base count)))
-        above-all b q c = sym (sum-high (tailWeight k q (rowsIn t base count)) (omega (arith, added q c)))
+        pub sum-above : maxWeight < sum + w → Over (λ q. TooHigh ≡ limitedSum (tailWeight k q (rowsIn t base count)))
+        sum-above b q c = sym (sum-high (tailWeight k q (rowsIn t base count)) (omega (arith, added q c)))
 
         pub one-more : sum + w ≤ maxWeight → Sum (i + 1) (sum + w)
         one-more b = record { low = b; whole = λ q c. rw add-one (added q c) }

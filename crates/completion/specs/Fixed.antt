@@ -1,24 +1,16 @@
--- Inner: what the fixed values come to as a clause, and their cost as a sum that is told only up to the greatest weight.
+-- Inner: what the fixed values come to as a clause.
 use Prim.Native.Nat.{ℕ}
 use mathlib.Core.Path.{_≡_}
-use mathlib.Core.Bool.{true, false, cond}
+use mathlib.Core.Bool.{true, false}
 use mathlib.Core.List.{List}
-use lib.Dec.{ltb}
 use Rattle.clause.specs.declared.Clause.{Clause}
 use Rattle.clause.specs.Packed.{Holds}
-use Rattle.rows.specs.Raw.{maxWeight}
 use Rattle.assignment.specs.Chosen.{carriedSigns}
 use Rattle.completion.specs.declared.FixedValues.{FixedValues}
 use Rattle.completion.specs.declared.FixedValues.the-variants.{Fit, Unfit}
-use Rattle.completion.specs.declared.TailSum.{TailSum}
-use Rattle.completion.specs.declared.TailSum.the-variants.{Summed, TooHigh}
 use Rattle.completion.specs.Calls.{fixedFit}
 
 -- the clause carries the values if they fit, and they are unfit only if they do not
 pub record Carrying (ds : List ℕ) (k : ℕ) (fixed : List ℕ) (answer : FixedValues) : Type 0 where
   pub fitting : (values : Clause) → answer ≡ Fit values → (fixedFit ds k fixed ≡ true) × Holds values (carriedSigns ds k fixed)
   pub unfitting : answer ≡ Unfit → fixedFit ds k fixed ≡ false
-
--- a sum up to the greatest weight
-unfoldable pub limitedSum : ℕ → TailSum
-limitedSum m = cond (ltb maxWeight m) TooHigh (Summed m)

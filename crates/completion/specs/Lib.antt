@@ -4,3 +4,4 @@ pub mod Order
 pub mod NothingFixed
 pub mod Witness
 pub mod Fixed
+pub mod Limited

@@ -3,7 +3,7 @@
 use Prim.Native.Nat.{ℕ, _+_, _*_}
 use mathlib.Core.Path.{_≡_}
 use mathlib.Core.List.{List, [], _∷_}
-use Rattle.wcsp.specs.Row.{Row}
+use Rattle.wcsp.specs.Row.{_weighted_}
 use Rattle.fields.specs.Answers.{good}
 use Rattle.fields.specs.Order.{firstOf}
 use Rattle.rows.specs.Raw.{rowWidth, maxWeight}
@@ -11,24 +11,21 @@ use Rattle.table.specs.Layout.{rowsAt, tableWords}
 use Rattle.completion.specs.Calls.{CompleteReturned, notCompleted, completeCall}
 use Rattle.completion.specs.Order.{testsOfComplete}
 
-abbrev pub rowOver : List ℕ → ℕ → Row
-rowOver signs w = record { signs = signs; weight = w }
-
 -- values 0, 0 cost 2 and values 1, 0 cost 1; and the table before its one step
 abbrev pub p3Done : List ℕ
-p3Done = tableWords (rowsAt 2 + 2 * rowWidth) (2 ∷ 2 ∷ []) (rowOver (2 ∷ 2 ∷ []) 1 ∷ rowOver (0 ∷ 2 ∷ []) 1 ∷ [])
+p3Done = tableWords (rowsAt 2 + 2 * rowWidth) (2 ∷ 2 ∷ []) ((2 ∷ 2 ∷ []) weighted 1 ∷ (0 ∷ 2 ∷ []) weighted 1 ∷ [])
 
 abbrev pub p3Started : List ℕ
-p3Started = tableWords (rowsAt 2 + 2 * rowWidth) (2 ∷ 2 ∷ []) (rowOver (2 ∷ 2 ∷ []) 2 ∷ rowOver (1 ∷ 2 ∷ []) 1 ∷ [])
+p3Started = tableWords (rowsAt 2 + 2 * rowWidth) (2 ∷ 2 ∷ []) ((2 ∷ 2 ∷ []) weighted 2 ∷ (1 ∷ 2 ∷ []) weighted 1 ∷ [])
 
 -- the greatest weight whatever the value, and 1 more for value 0
 abbrev pub heaviest : List ℕ
-heaviest = tableWords (rowsAt 1 + 2 * rowWidth) (2 ∷ []) (rowOver (0 ∷ []) maxWeight ∷ rowOver (2 ∷ []) 1 ∷ [])
+heaviest = tableWords (rowsAt 1 + 2 * rowWidth) (2 ∷ []) ((0 ∷ []) weighted maxWeight ∷ (2 ∷ []) weighted 1 ∷ [])
 
 -- the same with a pair left
 abbrev pub heaviestStarted : List ℕ
 heaviestStarted =
-    tableWords (rowsAt 1 + 3 * rowWidth) (2 ∷ []) (rowOver (0 ∷ []) maxWeight ∷ rowOver (2 ∷ []) 1 ∷ rowOver (1 ∷ []) 1 ∷ [])
+    tableWords (rowsAt 1 + 3 * rowWidth) (2 ∷ []) ((0 ∷ []) weighted maxWeight ∷ (2 ∷ []) weighted 1 ∷ (1 ∷ []) weighted 1 ∷ [])
 
 -- a good call into a target of two bytes and one more, which is kept
 abbrev pub completedAt : ℕ → ℕ → ℕ → CompleteReturned

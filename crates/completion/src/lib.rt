@@ -4,7 +4,6 @@ ghost use mathlib.Core.Bool.{true};
 ghost use mathlib.Core.List.{List};
 ghost use Prim.Native.Nat.{ℕ, _+_, _*_, _≤_};
 ghost use lib.ListN.{length, drop};
-ghost use lib.Seq.{paste};
 ghost use Rattle.wcsp.specs.Rebuild.{tailWeight};
 ghost use Rattle.clause.specs.Packed.{signsOf};
 ghost use Rattle.rows.specs.Raw.{rowWidth};
@@ -12,7 +11,8 @@ ghost use Rattle.table.specs.Meaning.{variablesOf, tableSizes, rowsFrom};
 ghost use Rattle.table.specs.Valid.{validTable};
 ghost use Rattle.assignment.specs.Chosen.{Carries};
 ghost use Rattle.completion.specs.Calls.{completeCall};
-ghost use Rattle.completion.specs.Fixed.{Carrying, limitedSum};
+ghost use Rattle.completion.specs.Fixed.{Carrying};
+ghost use Rattle.completion.specs.Limited.{limitedSum};
 use clause::Clause;
 use fields::Answer;
 use table::Checked;
@@ -40,7 +40,7 @@ fn carry(t: &[u32], n: usize, k: usize, fixed: &[u8]) -> FixedValues
     if fixed.len() != n - k {
         return FixedValues::Unfit;
     }
-    let mut chosen = Clause::empty();
+    let mut values = Clause::empty();
     let mut i = n;
     while k < i {
         i -= 1;
@@ -48,21 +48,21 @@ fn carry(t: &[u32], n: usize, k: usize, fixed: &[u8]) -> FixedValues
         if words::payload(t[i + 1]) <= value {
             return FixedValues::Unfit;
         }
-        chosen = chosen.replaced(i as u32, 1u32 << value);
+        values = values.replaced(i as u32, 1u32 << value);
     }
-    FixedValues::Fit(chosen)
+    FixedValues::Fit(values)
 }
 
 // The weight of the rows without variables below k that the carried values falsify. A sum above the greatest weight ends the loop, so it never overflows.
-fn tail_weight(t: &[u32], base: usize, count: usize, k: u32, fixed: Clause) -> TailSum
-    requires { ⌜ base + rowWidth * count ≤ length (now t) ⌝ }
-    ensures { λ r. ⌜ ((q : List ℕ) → Carries (signsOf fixed) k q → r ≡ limitedSum (tailWeight k q (rowsFrom count (drop base (now (t .entry)))))) ⌝ }
+fn tail_weight(t: &[u32], base: usize, count: usize, k: u32, values: Clause) -> TailSum
+    requires { ⌜ (base + rowWidth * count ≤ length (now t)) × (k ≤ 12) ⌝ }
+    ensures { λ r. ⌜ ((q : List ℕ) → Carries (signsOf values) k q → r ≡ limitedSum (tailWeight k q (rowsFrom count (drop base (now (t .entry)))))) ⌝ }
 {
     let mut sum = 0;
     let mut i = 0;
     while i < count {
         let x = rows::clause_of(t, base, i);
-        if k <= x.lowest() && assignment::apart(x, fixed) {
+        if k <= x.lowest() && assignment::apart(x, values) {
             sum += rows::weight_of(t, base, i);
             if rows::MAX_WEIGHT < sum {
                 return TailSum::TooHigh;
@@ -71,18 +71,6 @@ fn tail_weight(t: &[u32], base: usize, count: usize, k: u32, fixed: Clause) -> T
         i += 1;
     }
     TailSum::Summed(sum)
-}
-
-// The fixed values at their places in the target.
-fn place(target: &mut [u8], k: usize, fixed: &[u8])
-    requires { ⌜ k + length (now fixed) ≤ length (now target) ⌝ }
-    ensures { λ r. ⌜ now (target .exit) ≡ paste (now (target .entry)) k (now (fixed .entry)) (length (now (fixed .entry))) ⌝ }
-{
-    let mut i = 0;
-    while i < fixed.len() {
-        target[k + i] = fixed[i];
-        i += 1;
-    }
 }
 
 // Complete: 9, 10, 14, 13, 11; else the cost, and the assignment in the first n bytes, the rest of the target kept.
@@ -106,7 +94,7 @@ pub fn complete(t: &[u32], k: usize, fixed: &[u8], target: &mut [u8]) -> Answer
     let TailSum::Summed(cost) = tail_weight(t, n + 2, shape.count, k as u32, values) else {
         return fields::refusal(11);
     };
-    place(target, k, fixed);
+    fields::copy_bytes(target, k, fixed, fixed.len());
     assignment::rebuild(t, shape, k, values, target);
     fields::success(cost)
 }

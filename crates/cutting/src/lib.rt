@@ -83,11 +83,7 @@ fn fill(body: &mut [u8], at: usize, end: usize, bytes: &[u8]) -> usize
     ensures { λ r. ⌜ (r ≡ min (end - at) (length (now (bytes .entry)))) × (now (body .exit) ≡ paste (now (body .entry)) at (now (bytes .entry)) r) ⌝ }
 {
     let n = lesser((end - at) as u64, bytes.len() as u64) as usize;
-    let mut i = 0;
-    while i < n {
-        body[at + i] = bytes[i];
-        i += 1;
-    }
+    fields::copy_bytes(body, at, bytes, n);
     n
 }
 

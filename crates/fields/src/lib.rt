@@ -1,10 +1,10 @@
-// What the crates above share on a field: its limits, its sizes' words in front of a slice, a word's cost, assignments, the answer of a call, and
-// two small functions on numbers.
+// What the crates above share on a field: its limits, its sizes' words in front of a slice, a word's cost, assignments, the answer of a call, a
+// copy of bytes, and two small functions on numbers.
 use words::Word;
 ghost use mathlib.Core.Path.{_≡_};
 ghost use Prim.Native.Nat.{_+_, _<_, _≤_, min};
 ghost use lib.ListN.{length, take};
-ghost use lib.Seq.{sets};
+ghost use lib.Seq.{sets, paste};
 ghost use Rattle.fields.specs.Limits.{maxVariables};
 ghost use Rattle.fields.specs.Front.{frontWords};
 ghost use Rattle.fields.specs.Entries.{costOf};
@@ -69,6 +69,18 @@ pub fn write_front(target: &mut [u32], sizes: &[u8; MAX_VARIABLES], n: usize)
     let mut i: usize = 0;
     while i < n {
         target[i + 1] = words::size(wide(sizes[i]));
+        i += 1;
+    }
+}
+
+// The first n of the bytes, put into the target from an index on.
+pub fn copy_bytes(target: &mut [u8], at: usize, bytes: &[u8], n: usize)
+    requires { ⌜ (at + n ≤ length (now target)) × (n ≤ length (now bytes)) ⌝ }
+    ensures { λ r. ⌜ now (target .exit) ≡ paste (now (target .entry)) at (now (bytes .entry)) n ⌝ }
+{
+    let mut i = 0;
+    while i < n {
+        target[at + i] = bytes[i];
         i += 1;
     }
 }

@@ -32,6 +32,15 @@ heavy-at L [] i e = omega arith
 heavy-at L (r ∷ rs) zero e = ltb-false L (r .weight) (or-left (ltb L (r .weight)) _ e)
 heavy-at L (r ∷ rs) (suc i) e = heavy-at L rs i (or-right (ltb L (r .weight)) _ e)
 
+pub heavy-weightOf : (L : ℕ) (c : List ℕ) (rs : List Row) → heavy L rs ≡ false → weightOf c rs ≤ L
+unfolding heavy weightOf
+heavy-weightOf L c [] e = omega arith
+heavy-weightOf L c (r ∷ rs) e = go (same (r .signs) c) (heavy-weightOf L c rs (or-right (ltb L (r .weight)) (heavy L rs) e))
+  where
+    go : (b : Bool) → weightOf c rs ≤ L → cond b (r .weight) (weightOf c rs) ≤ L
+    go true ih = ltb-false L (r .weight) (or-left (ltb L (r .weight)) (heavy L rs) e)
+    go false ih = ih
+
 pub light : (L : ℕ) (rs : List Row) → ((i : ℕ) → i < length rs → getD rs i noRow .weight ≤ L) → heavy L rs ≡ false
 unfolding heavy
 light L [] f = refl

@@ -11,6 +11,11 @@ pub record Row : Type 0 where
   pub signs : List ℕ
   pub weight : ℕ
 
+-- a row with these signs and this weight, as the papers' cases write it
+infix 80 _weighted_
+abbrev pub _weighted_ : List ℕ → ℕ → Row
+signs weighted w = record { signs = signs; weight = w }
+
 -- the falsified weight: the sum of the weights of the rows that the assignment falsifies
 unfoldable pub falsified : List ℕ → List Row → ℕ
 falsified p [] = zero

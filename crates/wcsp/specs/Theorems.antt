@@ -149,13 +149,14 @@ pub record BestFrom (ds : List ℕ) (es : List Entry) (k : ℕ) (q p : List ℕ)
   pub attained : cost es p ≡ m
   pub least : (p′ : List ℕ) → InRange ds p′ → drop k p′ ≡ q → m ≤ cost es p′
 
--- of such rows, for every k and every choice of the values from variable k on: the falsified weight of the rows without variables below k
--- is the least cost of any completion, and the assignment rebuilt over them has it
+-- from the encoding of an instance, by any permitted steps, to rows with no pair left, for every k and every choice of the values from
+-- variable k on: the falsified weight of the rows without variables below k is the least cost of any completion, and the assignment
+-- rebuilt over these values has it
 abbrev pub SaturatedCompletes : Type 0
 SaturatedCompletes = (ds : List ℕ) (es : List Entry) (prs : List Pair) (rs′ : List Row) (k : ℕ) (q : List ℕ) → AllPositive ds → WellFormed ds es
     → Replays ds (encoded ds es) prs rs′ → nextPair ds rs′ ≡ none → k ≤ length ds → InRange (drop k ds) q
     → BestFrom ds es k q (rebuiltOver ds rs′ k q) (tailWeight k q rs′)
 
--- with no value given it is the empty row's weight
+-- with no value given, the weight of the rows without lower variables is the empty row's
 abbrev pub TailOfNone : Type 0
 TailOfNone = (ds : List ℕ) (rs : List Row) → ValidRows ds rs → tailWeight (length ds) [] rs ≡ emptyWeight (length ds) rs

@@ -5,7 +5,7 @@ import unittest
 from itertools import product
 
 from reference import complete_call, plan_call, step_call
-from reference.fields import settled_rows, table, table_length
+from reference.fields import HEAVY_ROWS, settled_rows, table, table_length
 from reference.limits import MAX_WEIGHT
 from reference.tables import read_table, table_words
 
@@ -165,8 +165,8 @@ class Refusals(unittest.TestCase):
 
     def test_as_many_rows_as_there_may_be(self):
         # 512 rows belong to each of the first eight variables, and zeros falsify all of them; 4,096 times 1 << 20 is 1 << 32.
-        for first, other, cost in [(1, 1, 4_096), (65_535 + 4_095, 65_535, MAX_WEIGHT), (65_535 + 4_096, 65_535, None),
-                                   (1 << 20, 1 << 20, None), (MAX_WEIGHT, MAX_WEIGHT, None)]:
+        costs = [4_096, MAX_WEIGHT] + [None] * (len(HEAVY_ROWS) - 1)
+        for (first, other), cost in zip([(1, 1)] + HEAVY_ROWS, costs):
             source = table_words([8] * 12, settled_rows([first] + [other] * 4_095), table_length(12, 4_096))
             self.assertEqual(complete_call(source, 0, [0] * 12, [9] * 12),
                              (11, 0, [9] * 12) if cost is None else (0, cost, [0] * 12))

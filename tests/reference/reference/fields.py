@@ -2,10 +2,13 @@
 
 from . import words
 from .inputs import Entry, Instance, entry_words, instance_words
-from .limits import ROW_WORDS
+from .limits import MAX_WEIGHT, ROW_WORDS
 from .tables import Row, rows_start, table_words
 
 NO_WORDS = b""      # a sheet of a season
+# The weight of the first of 4,096 rows and that of each other one: they add up to the greatest weight, to one more, to powers of
+# two, and far beyond.
+HEAVY_ROWS = [(65_535 + 4_095, 65_535), (65_535 + 4_096, 65_535), (1 << 16, 1 << 16), (1 << 20, 1 << 20), (MAX_WEIGHT, MAX_WEIGHT)]
 
 
 def instance(sizes, entries):

@@ -100,7 +100,7 @@ tail-weight-requires c κs =
     let shaped = read .before .before .before in
     let called = shaped .before .before in
     let g = called .before .before .before .before .args in
-    may-sum (g .t .now) (g .k) (g .fixed .now) (g .target .now) _ (called .check .ensures) _ (shaped .checked .given .1) (omega arith) _ (read .carry .ensures) _ (fitted .values .given .1)
+    (may-sum (g .t .now) (g .k) (g .fixed .now) (g .target .now) _ (called .check .ensures) _ (shaped .checked .given .1) (omega arith) _ (read .carry .ensures) _ (fitted .values .given .1), k-low (g .t .now) (g .k) (g .fixed .now) (g .target .now) _ (called .check .ensures) _ (shaped .checked .given .1) (omega arith) _ (read .carry .ensures) _ (fitted .values .given .1))
 
 enum-known-cost : tie.Need-enum-known-cost
 enum-known-cost c = search needs
@@ -122,8 +122,8 @@ returns-5 c =
     let g = called .before .before .before .before .args in
     too-dear (g .t .now) (g .k) (g .fixed .now) (g .target .now) _ (called .check .ensures) _ (shaped .checked .given .1) (omega arith) _ (read .carry .ensures) _ (fitted .values .given .1) _ (asked .pair-left .ensures) (summed .before .if2 .left) _ (summed .tail-weight .ensures) (c .before .enum-told3 .given .1) _ (c .refusal5 .ensures)
 
-place-requires : tie.Need-place-requires
-place-requires c κs =
+copy-bytes-requires : tie.Need-copy-bytes-requires
+copy-bytes-requires c κs =
     let priced = c .before .before in
     let summed = priced .before .before in
     let asked = summed .before .before in
@@ -132,7 +132,7 @@ place-requires c κs =
     let shaped = read .before .before .before in
     let called = shaped .before .before in
     let g = called .before .before .before .before .args in
-    omega (arith, place-room (g .t .now) (g .k) (g .fixed .now) (g .target .now) _ (called .check .ensures) _ (shaped .checked .given .1) (omega arith) _ (read .carry .ensures) _ (fitted .values .given .1))
+    (omega (arith, place-room (g .t .now) (g .k) (g .fixed .now) (g .target .now) _ (called .check .ensures) _ (shaped .checked .given .1) (omega arith) _ (read .carry .ensures) _ (fitted .values .given .1)), omega arith)
 
 rebuild-requires : tie.Need-rebuild-requires
 rebuild-requires c κs =
@@ -145,7 +145,7 @@ rebuild-requires c κs =
     let shaped = read .before .before .before in
     let called = shaped .before .before in
     let g = called .before .before .before .before .args in
-    ready (g .t .now) (g .k) (g .fixed .now) (g .target .now) _ (called .check .ensures) _ (shaped .checked .given .1) (omega arith) _ (read .carry .ensures) _ (fitted .values .given .1) _ (asked .pair-left .ensures) (summed .before .if2 .left) _ (summed .tail-weight .ensures) _ (priced .cost .given .1) _ (put .place .ensures)
+    ready (g .t .now) (g .k) (g .fixed .now) (g .target .now) _ (called .check .ensures) _ (shaped .checked .given .1) (omega arith) _ (read .carry .ensures) _ (fitted .values .given .1) _ (asked .pair-left .ensures) (summed .before .if2 .left) _ (summed .tail-weight .ensures) _ (priced .cost .given .1) _ (put .copy-bytes .ensures)
 
 success-requires : tie.Need-success-requires
 success-requires c κs = search needs
@@ -165,7 +165,7 @@ returns-6 c =
     let shaped = read .before .before .before in
     let called = shaped .before .before in
     let g = called .before .before .before .before .args in
-    completed (g .t .now) (g .k) (g .fixed .now) (g .target .now) _ (called .check .ensures) _ (shaped .checked .given .1) (omega arith) _ (read .carry .ensures) _ (fitted .values .given .1) _ (asked .pair-left .ensures) (summed .before .if2 .left) _ (summed .tail-weight .ensures) _ (priced .cost .given .1) _ (put .place .ensures) _ (rebuilt .rebuild .ensures) _ (c .success .ensures)
+    completed (g .t .now) (g .k) (g .fixed .now) (g .target .now) _ (called .check .ensures) _ (shaped .checked .given .1) (omega arith) _ (read .carry .ensures) _ (fitted .values .given .1) _ (asked .pair-left .ensures) (summed .before .if2 .left) _ (summed .tail-weight .ensures) _ (priced .cost .given .1) _ (put .copy-bytes .ensures) _ (rebuilt .rebuild .ensures) _ (c .success .ensures)
 
 pub complete-spec : {M : Type 1} → statement M
 complete-spec =
@@ -193,7 +193,7 @@ complete-spec =
     enum-told-3
     refusal-requires-5
     returns-5
-    place-requires
+    copy-bytes-requires
     rebuild-requires
     success-requires
     same-length

@@ -22,15 +22,15 @@ use Rattle.assignment.proofs.Choosing.{set-below}
 use Rattle.assignment.proofs.Tables.{few-sizes}
 use Rattle.completion.specs.declared.FixedValues.the-variants.{Fit, Unfit}
 use Rattle.completion.specs.Fixed.{Carrying}
-use Rattle.completion.proofs.Fitting.{fits-of, above-all, other-number, too-high, unfit, carried}
+use Rattle.completion.proofs.Fitting.{fits-of, k-above, other-number, too-high, unfit, carried}
 
--- the values of the variables from i on, the first of which is number j of those fixed
+-- the values of the variables from i on, the first of which stands at `at` among those fixed
 pub record CarriedFrom (ds : List ℕ) (k : ℕ) (fixed : List ℕ) (i : ℕ) (chosen : Clause) : Type 0 where
-  pub number : ℕ
-  pub placed : k + number ≡ i
+  pub at : ℕ
+  pub placed : k + at ≡ i
   pub last : i ≤ length ds
-  pub holds : Holds chosen (carriedSigns ds i (drop number fixed))
-  pub inRange : InRange (drop i ds) (drop number fixed)
+  pub holds : Holds chosen (carriedSigns ds i (drop at fixed))
+  pub inRange : InRange (drop i ds) (drop at fixed)
 
 module _ (t : List ℕ) (v : validTable t ≡ true) (n : ℕ) (variables : n ≡ variablesOf t) (k : ℕ) (fixed : List ℕ) where
   abbrev ds : List ℕ
@@ -40,19 +40,19 @@ module _ (t : List ℕ) (v : validTable t ≡ true) (n : ℕ) (variables : n ≡
   all = valid-variables t v ∙ sym variables
 
   pub high-start : n < k → Carrying ds k fixed Unfit
-  high-start h = unfit ds k fixed (above-all ds k fixed (omega (arith, all)))
+  high-start h = unfit ds k fixed (k-above ds k fixed (omega (arith, all)))
 
   pub wrong-number : k ≤ n → (length fixed + k ≡ n → ⊥) → Carrying ds k fixed Unfit
   wrong-number l h = unfit ds k fixed (other-number ds k fixed (λ e. h (omega (arith, all))))
 
   module _ (low : k ≤ n) (long : length fixed + k ≡ n) where
     -- nothing is carried yet
-    pub none-carried : (chosen : Clause) → Holds chosen (replicate 12 0) → CarriedFrom ds k fixed n chosen
-    none-carried chosen h =
+    pub nothing-yet : (chosen : Clause) → Holds chosen (replicate 12 0) → CarriedFrom ds k fixed n chosen
+    nothing-yet chosen h =
         let rest : drop (length fixed) fixed ≡ [] = drop-length fixed in
         let twelve : 12 ≡ n + lacking ds = omega (arith, few-sizes t v, all) in
         record {
-          number = length fixed;
+          at = length fixed;
           placed = omega arith;
           last = omega (arith, all);
           holds = rw (rest, replicate-append-replicate {A = ℕ} n (lacking ds) 0, ← twelve) h;
@@ -86,13 +86,13 @@ module _ (t : List ℕ) (v : validTable t ≡ true) (n : ℕ) (variables : n ≡
 
           pub one-more : (next : Clause) → Holds next (set (signsOf chosen) i (1 * 2 ^ getD fixed at 0 % 4294967296)) → CarriedFrom ds k fixed i next
           one-more next w =
-              let m : c .number ≡ suc at = omega (arith, c .placed) in
+              let m : c .at ≡ suc at = omega (arith, c .placed) in
               let before : signsOf chosen ≡ replicate (suc i) 0 ++ (singles (drop (suc at) fixed) ++ replicate (lacking ds) 0)
               = rw (e, m) at (c .holds .signsAre) in
               let after : drop at fixed ≡ getD fixed at 0 ∷ drop (suc at) fixed = drop-cons fixed at 0 value-there in
               let higher : InRange (drop (suc i) ds) (drop (suc at) fixed) = rw (e, m) at (c .inRange) in
               record {
-                number = at;
+                at = at;
                 placed = omega arith;
                 last = omega (arith, c .last);
                 holds = record {
@@ -106,6 +106,6 @@ module _ (t : List ℕ) (v : validTable t ≡ true) (n : ℕ) (variables : n ≡
     -- all are carried
     pub all-carried : (i : ℕ) (chosen : Clause) → i ≤ k → CarriedFrom ds k fixed i chosen → Carrying ds k fixed (Fit chosen)
     all-carried i chosen h c =
-        let z : c .number ≡ 0 = omega (arith, c .placed) in
+        let z : c .at ≡ 0 = omega (arith, c .placed) in
         let w : i ≡ k = omega (arith, c .placed) in
         carried ds k fixed chosen (fits-of ds k fixed (omega (arith, all)) (rw (w, z) at (c .inRange))) (rw (w, z) at (c .holds))
