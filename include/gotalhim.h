@@ -146,10 +146,11 @@ uint32_t gotalhim_plan(const uint32_t *table, size_t table_length,
                        uint8_t *target, size_t target_length);
 
 /*
- * Completes a plan of which the values of the variables from k to n - 1 are fixed, without new steps: rebuilds the values
- * of the others from a table in which no pair is left. If the table comes from the encoding of an accepted instance by any
- * list of step calls, runs and plan calls, the plan that is written costs the answer, no plan with these fixed values
- * costs less, and 11 does not occur. With k = n no value is fixed: the plan is that of gotalhim_plan, and the answer is
+ * Completes a plan of which the values of the variables from k to n - 1 are fixed, that of variable k standing first,
+ * without new steps: rebuilds the values of the others from a table in which no pair is left. If the table comes from the
+ * encoding of an accepted instance by any list of step calls, runs and plan calls, or is the work table that
+ * gotalhim_check left of one, the plan that is written costs the answer, no plan with these fixed values costs less, and
+ * 11 does not occur. With k = n no value is fixed: the plan is that of gotalhim_plan, and the answer is
  * the weight of the row without literals, 0 if there is none.
  * Tests, in this order: 9; 10 if the target is shorter than n bytes; 14; 13; 11.
  * Answer: the weight of the rows without variables below k that the fixed values falsify.

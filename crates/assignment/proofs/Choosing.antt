@@ -123,11 +123,12 @@ module _ (ds : List ℕ) (m : ℕ) (rs : List Row) (settled : Settled ds m rs) w
           long = length-set target k (trailingZeros 32 S) ∙ h .long;
         }
 
--- all are chosen
+-- with no value left to be chosen nothing is rebuilt
 over-none : (ds : List ℕ) (rs : List Row) (q : List ℕ) → rebuiltOver ds rs 0 q ≡ q
 unfolding rebuiltOver
 over-none ds rs q = refl
 
+-- all are chosen
 pub all-chosen : (ds : List ℕ) (m : ℕ) (rs : List Row) (from : ℕ) (given target₀ signs target : List ℕ) → Chosen ds m rs from given target₀ 0 signs target
     → target ≡ take (length ds) (rebuiltOver (lengthened ds m) rs from (given ++ replicate m 0)) ++ drop (length ds) target₀
 all-chosen ds m rs from given target₀ signs target h =

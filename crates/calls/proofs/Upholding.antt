@@ -1,15 +1,14 @@
--- Demand 3: its sentences for rows reached by the invariant's steps.
+-- Demand 3: its sentences for rows reached by the invariant's steps; and completions, in these and in the table that the checker leaves.
 use Prim.Native.Nat.{ℕ, _<_, _≤_, min}
 use native.Mathlib.Omega.{arith}
 use mathlib.Core.Path.{_≡_, refl, sym, ap, _∙_}
 use mathlib.Core.Logic.{_⊎_, inl, inr, _↔_}
 use mathlib.Core.Bool.{Bool, true, false, cond}
-use mathlib.Core.List.{List, [], _∷_, _++_}
+use mathlib.Core.List.{List, [], _∷_}
 use mathlib.Core.Option.{Option, none, some}
-use lib.ListN.{length, drop}
+use lib.ListN.{length}
 use lib.Dec.{ltb}
 use borrow.Author.Tests.{lt-ltb, le-ltb}
-use Rattle.wcsp.specs.Clause.{InRange}
 use Rattle.wcsp.specs.Row.{Row, emptyWeight}
 use Rattle.wcsp.specs.Entry.{Entry}
 use Rattle.wcsp.specs.Resolve.{Pair, nextPair, resolve}
@@ -18,7 +17,6 @@ use Rattle.wcsp.specs.Theorems.{Optimal, BestFrom}
 use Rattle.wcsp.proofs.Bound.{stepsBounded, bound-fixed}
 use Rattle.wcsp.proofs.Completeness.{optimality}
 use Rattle.wcsp.proofs.Least.{best-from}
-use Rattle.fields.specs.Answers.{good}
 use Rattle.fields.proofs.Costs.{entries-costs}
 use Rattle.rows.specs.Raw.{maxWeight}
 use Rattle.table.specs.Layout.{capacity, tableWords}
@@ -27,13 +25,13 @@ use Rattle.table.proofs.Own.{Held}
 use Rattle.stepping.specs.Step.{Stepping, refusing, stepsTo, pairWord}
 use Rattle.resolution.specs.Calls.{stepReturns, stepCall, runCall}
 use Rattle.resolution.specs.Numbers.{stepNumber, stepFields, outcomeField, runNumber}
-use Rattle.completion.specs.Calls.{completeCall}
 use Rattle.checker.specs.Theorems.{Best}
 use Rattle.checker.proofs.Encoded.{GoodEncoding, coded}
 use Rattle.checker.proofs.Kept.{Takes, keeps-below}
 use Rattle.checker.proofs.Replaying.{Left, left-held}
-use Rattle.checker.proofs.Claims.{coded-takes, encoded-left}
+use Rattle.checker.proofs.Claims.{coded-takes, encoded-left, replayed-ended, check-held}
 use Rattle.calls.specs.Calls.{Call, afterCalls, started}
+use Rattle.calls.specs.LastFixed.{CompletesBest, CheckedCompletes}
 use Rattle.calls.specs.Demand.{StepGives, RunEnds, noneLeft, limitMet, noRoom, Upheld, UpheldFrom, Demand3}
 use Rattle.calls.proofs.Reaching.{reaches-derives, reaches-steps, reaches-left}
 use Rattle.calls.proofs.Held.{held-rows, held-run, plan-short, plan-early, plan-written, complete-written}
@@ -87,15 +85,12 @@ module _ {len : ℕ} {ds : List ℕ} {es : List Entry} (a : Takes len ds es) whe
           least = keeps-below (l .keeps);
         }
 
-    completed-rows : (k : ℕ) (fixed target : List ℕ) → length ds ≤ length target → k ≤ length ds → InRange (drop k ds) fixed → nextPair ds rs ≡ none
-        → let plan = rebuiltOver ds rs k fixed in
-        let m = tailWeight k fixed rs in
-        (completeCall t′ k fixed target ≡ record { answer = good m; target = plan ++ drop (length ds) target }) × BestFrom ds es k fixed plan m
-    completed-rows k fixed target room low r e =
+    pub completed-rows : CompletesBest ds es t′
+    completed-rows = rw (h .rows) (λ k fixed target room low r e.
         let best : BestFrom ds es k fixed (rebuiltOver ds rs k fixed) (tailWeight k fixed rs)
         = best-from ds es rs (a .sizes .positive) (l .keeps .valid) e (l .keeps .weights) k fixed low r in
         let light : tailWeight k fixed rs ≤ maxWeight = omega (arith, best .attained, entries-costs (a .entries) (rebuiltOver ds rs k fixed)) in
-        (complete-written h k fixed target room low r e light, best)
+        (complete-written h k fixed target room low r e light, best))
 
     -- ---- further calls
 
@@ -173,7 +168,7 @@ module _ {len : ℕ} {ds : List ℕ} {es : List Entry} (a : Takes len ds es) whe
           planEarly = rw (h .rows) (plan-early h);
           planWritten = rw (h .rows) (plan-written h);
           best = rw (h .rows) (best-rows l h);
-          completed = rw (h .rows) (completed-rows l h);
+          completed = completed-rows l h;
         }
 
 pub demand-rows : (inst t : List ℕ) → GoodEncoding inst t → (calls : List Call)
@@ -186,3 +181,10 @@ demand-rows inst t c calls =
 
 pub demand3 : Demand3
 demand3 inst t calls e = demand-rows inst t (coded inst t e) calls
+
+-- ---- the table that the checker leaves
+
+pub checkedCompletes : CheckedCompletes
+checkedCompletes inst derivation plan claimed t e =
+    let c = coded inst t e in
+    completed-rows (coded-takes inst t c) (replayed-ended inst t c derivation .left) (check-held inst derivation plan claimed t e)

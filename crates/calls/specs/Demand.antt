@@ -11,10 +11,8 @@ use Rattle.wcsp.specs.Clause.{InRange}
 use Rattle.wcsp.specs.Row.{Row, falsified, emptyWeight}
 use Rattle.wcsp.specs.Entry.{Entry, cost}
 use Rattle.wcsp.specs.Resolve.{Pair, nextPair, resolve}
-use Rattle.wcsp.specs.Rebuild.{rebuilt, rebuiltOver, tailWeight}
-use Rattle.wcsp.specs.Theorems.{BestFrom}
+use Rattle.wcsp.specs.Rebuild.{rebuilt}
 use Rattle.wcsp.specs.Bound.{rowBound, stepBound}
-use Rattle.fields.specs.Answers.{good}
 use Rattle.input.specs.Instance.{sizesOf, entriesOf}
 use Rattle.table.specs.Layout.{tableWords, capacity}
 use Rattle.table.specs.Meaning.{ownRows}
@@ -24,9 +22,9 @@ use Rattle.stepping.specs.Step.{pairWord}
 use Rattle.resolution.specs.Calls.{stepCall, runCall}
 use Rattle.resolution.specs.Numbers.{stepNumber, stepFields, outcomeField, runNumber}
 use Rattle.assignment.specs.Calls.{planCall}
-use Rattle.completion.specs.Calls.{completeCall}
 use Rattle.checker.specs.Theorems.{Best}
 use Rattle.calls.specs.Calls.{Call, started, afterCalls, Derives}
+use Rattle.calls.specs.LastFixed.{CompletesBest}
 
 -- how many rows a slice takes over these sizes
 abbrev pub room : List ℕ → List ℕ → ℕ
@@ -93,14 +91,8 @@ pub record Upheld (ds : List ℕ) (es : List Entry) (from : List Row) (t′ ws :
       → planCall t′ target ≡ record { number = 0; target = rebuilt ds (ownRows t′) ++ drop (length ds) target }
   -- once no pair is left, that assignment has exactly the empty row's weight as cost, which is the least cost
   pub best : nextPair ds (ownRows t′) ≡ none → Best ds es (rebuilt ds (ownRows t′)) (emptyWeight (length ds) (ownRows t′))
-  -- and a complete call (document 02), for every k and every fixed tail in range, is good, so never 11: it answers the falsified weight of the
-  -- rows without variables below k and writes the assignment rebuilt over the fixed values, which keeps them and has that cost, and none that
-  -- has them costs less
-  pub completed : (k : ℕ) (given target : List ℕ) → length ds ≤ length target → k ≤ length ds → InRange (drop k ds) given
-      → nextPair ds (ownRows t′) ≡ none
-      → let plan = rebuiltOver ds (ownRows t′) k given in
-      let m = tailWeight k given (ownRows t′) in
-      (completeCall t′ k given target ≡ record { answer = good m; target = plan ++ drop (length ds) target }) × BestFrom ds es k given plan m
+  -- and, of document 02, every fixed tail is completed at least cost
+  pub completed : CompletesBest ds es t′
 
 -- the table t′ and the derivation ws that calls left of an encoding of inst in t: the slice is as long, and the steps started from the encoding
 abbrev pub UpheldFrom : List ℕ → List ℕ → List ℕ → List ℕ → Type 0

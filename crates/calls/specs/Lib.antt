@@ -1,5 +1,6 @@
 -- Demand 3: lists of calls on one table, and what holds after every one of them.
 pub mod Calls
+pub mod LastFixed
 pub mod Demand
 pub mod Derivation
 pub mod Driver

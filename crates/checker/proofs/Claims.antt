@@ -14,7 +14,8 @@ use Rattle.wcsp.proofs.Lists.{and-left, and-right}
 use Rattle.fields.specs.Assignment.{isAssignment}
 use Rattle.fields.proofs.Assigning.{in-range-of}
 use Rattle.input.specs.Instance.{instanceFault, sizesOf, entriesOf}
-use Rattle.table.specs.Layout.{capacity, tableWords}
+use Rattle.table.proofs.Own.{Held}
+use Rattle.table.specs.Layout.{capacity}
 use Rattle.encoding.specs.Calls.{encodedRows, encodeCall}
 use Rattle.checker.specs.Replay.{Replayed, replay}
 use Rattle.checker.specs.Calls.{claimHolds, judged, checkCall}
@@ -100,11 +101,15 @@ acceptedIsLeast inst derivation plan claimed t e = coding (eqb (encodeCall inst 
         (claimHolds inst plan claimed (emptyWeight (length (sizesOf inst)) (done .rows))) refl refl n
     coding false h n = absurd (eqb-false (encodeCall inst t .answer .number) 0 h n)
 
-pub leftConserves : LeftConserves
+-- the table left holds the rows that were replayed
+pub check-held : (inst derivation plan : List ℕ) (claimed : ℕ) (t : List ℕ) → encodeCall inst t .answer .number ≡ 0
+    → Held (checkCall inst derivation plan claimed t .table) (length t) (sizesOf inst) (replayed inst t derivation .rows)
 unfolding judged
-leftConserves inst derivation plan claimed t p e r =
+check-held inst derivation plan claimed t e =
     let c = coded inst t e in
-    let l = replayed-ended inst t c derivation .left in
-    let left : checkCall inst derivation plan claimed t .table ≡ tableWords (length t) (sizesOf inst) (replayed inst t derivation .rows)
-    = ap (λ k. k .table) (check-judged inst derivation plan claimed t e) in
-    rw (left-held (coded-takes inst t c) l left .rows) (l .keeps .weights p r)
+    left-held (coded-takes inst t c) (replayed-ended inst t c derivation .left)
+    (ap (λ k. k .table) (check-judged inst derivation plan claimed t e))
+
+pub leftConserves : LeftConserves
+leftConserves inst derivation plan claimed t p e r =
+    rw (check-held inst derivation plan claimed t e .rows) (replayed-ended inst t (coded inst t e) derivation .left .keeps .weights p r)

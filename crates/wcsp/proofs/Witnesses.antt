@@ -3,18 +3,15 @@
 use Prim.Native.Nat.{ℕ}
 use mathlib.Core.Path.{_≡_, refl}
 use mathlib.Core.Bool.{false}
-use mathlib.Core.List.{List, [], _∷_}
+use mathlib.Core.List.{[], _∷_}
 use mathlib.Core.Option.{some}
 use Rattle.wcsp.specs.Sign.{has, full, complement, within, present, lowest}
 use Rattle.wcsp.specs.Clause.{falsifies, same, bucket}
-use Rattle.wcsp.specs.Row.{Row, falsified, merge}
+use Rattle.wcsp.specs.Row.{_weighted_, falsified, merge}
 use Rattle.wcsp.specs.Rule.{conclusions, permitted}
 use Rattle.wcsp.specs.Resolve.{Pair, nextPair, lessen, movedWeight}
 use Rattle.wcsp.specs.Rebuild.{rebuilt, tailWeight}
 use Rattle.wcsp.specs.Theorems.{falsifiedCount}
-
-row : List ℕ → ℕ → Row
-row c w = record { signs = c; weight = w }
 
 pair : ℕ → ℕ → ℕ → Pair
 pair s i j = record { variable = s; first = i; second = j }
@@ -49,38 +46,38 @@ nested-signs = refl
 -- ---- the step
 
 -- merging adds the weights
-merged : falsified (0 ∷ []) (merge 3 (row (2 ∷ []) 4 ∷ []) (2 ∷ [])) ≡ 7
-unfolding row has falsifies falsified same merge
+merged : falsified (0 ∷ []) (merge 3 ((2 ∷ []) weighted 4 ∷ []) (2 ∷ [])) ≡ 7
+unfolding has falsifies falsified same merge
 merged = refl
 
 -- the lesser weight is moved
-lesser : movedWeight (pair 0 0 1) (row (1 ∷ []) 4 ∷ row (2 ∷ []) 3 ∷ []) ≡ 3
-unfolding row pair movedWeight
+lesser : movedWeight (pair 0 0 1) ((1 ∷ []) weighted 4 ∷ (2 ∷ []) weighted 3 ∷ []) ≡ 3
+unfolding pair movedWeight
 lesser = refl
 
 -- a row whose whole weight is taken is no row any more
-used-up : lessen 4 0 (row (2 ∷ []) 4 ∷ []) ≡ []
-unfolding row lessen
+used-up : lessen 4 0 ((2 ∷ []) weighted 4 ∷ []) ≡ []
+unfolding lessen
 used-up = refl
 
 -- of two second rows the lower
-second-row : nextPair (3 ∷ []) (row (1 ∷ []) 1 ∷ row (2 ∷ []) 1 ∷ row (4 ∷ []) 1 ∷ []) ≡ some (pair 0 0 1)
-unfolding row pair full within present bucket permitted nextPair
+second-row : nextPair (3 ∷ []) ((1 ∷ []) weighted 1 ∷ (2 ∷ []) weighted 1 ∷ (4 ∷ []) weighted 1 ∷ []) ≡ some (pair 0 0 1)
+unfolding pair full within present bucket permitted nextPair
 second-row = refl
 
 -- of two variables the lower
-variable : nextPair (3 ∷ 3 ∷ []) (row (0 ∷ 1 ∷ []) 1 ∷ row (0 ∷ 2 ∷ []) 1 ∷ row (1 ∷ 0 ∷ []) 1 ∷ row (2 ∷ 0 ∷ []) 1 ∷ []) ≡ some (pair 0 2 3)
-unfolding row pair full within present bucket permitted nextPair
+variable : nextPair (3 ∷ 3 ∷ []) ((0 ∷ 1 ∷ []) weighted 1 ∷ (0 ∷ 2 ∷ []) weighted 1 ∷ (1 ∷ 0 ∷ []) weighted 1 ∷ (2 ∷ 0 ∷ []) weighted 1 ∷ []) ≡ some (pair 0 2 3)
+unfolding pair full within present bucket permitted nextPair
 variable = refl
 
 -- ---- the rebuilt assignment
 
 -- a row that a higher value satisfies narrows nothing
-satisfied : rebuilt (2 ∷ 2 ∷ []) (row (2 ∷ 1 ∷ []) 1 ∷ []) ≡ 0 ∷ 0 ∷ []
-unfolding row has full lowest falsifies bucket rebuilt
+satisfied : rebuilt (2 ∷ 2 ∷ []) ((2 ∷ 1 ∷ []) weighted 1 ∷ []) ≡ 0 ∷ 0 ∷ []
+unfolding has full lowest falsifies bucket rebuilt
 satisfied = refl
 
 -- of four rows the one with a variable below 1 does not count, nor the one that the value satisfies; the empty row does
-tail : tailWeight 1 (0 ∷ []) (row (2 ∷ 0 ∷ []) 8 ∷ row (0 ∷ 2 ∷ []) 2 ∷ row (0 ∷ 1 ∷ []) 4 ∷ row (0 ∷ 0 ∷ []) 1 ∷ []) ≡ 3
-unfolding row has falsifies bucket tailWeight
+tail : tailWeight 1 (0 ∷ []) ((2 ∷ 0 ∷ []) weighted 8 ∷ (0 ∷ 2 ∷ []) weighted 2 ∷ (0 ∷ 1 ∷ []) weighted 4 ∷ (0 ∷ 0 ∷ []) weighted 1 ∷ []) ≡ 3
+unfolding has falsifies bucket tailWeight
 tail = refl

@@ -1,4 +1,4 @@
--- `plan` meets its contract: the table's test, the target's length and the hunt for a pair decide as the definition does.
+-- `plan` meets its contract: the table's test, the target's length and whether a pair is left decide as in the definition.
 use native.Mathlib.Omega.{arith}
 use borrow.Author.Needs.{needs}
 use Rattle.assignment.proofs.Planning.{not-a-table, told, too-short, pair-left, ready, rebuilt-all}

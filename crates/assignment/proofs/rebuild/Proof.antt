@@ -1,4 +1,4 @@
--- `rebuild` meets its contract: the values from k on are chosen, and the rest is rebuilt over them.
+-- `rebuild` meets its contract: the values from i on are given or chosen, and the rest is rebuilt over them.
 use Prim.Native.Nat.{_-_}
 use native.Mathlib.Omega.{arith}
 use Rattle.assignment.proofs.Bit.{bit-small}
