@@ -9,22 +9,22 @@ use mathlib.Core.Path.{_≡_, refl, sym, ap, _∙_}
 use mathlib.Core.Bool.{Bool, true, false, not, _&&_, and-false}
 use mathlib.Core.List.{List, [], _∷_}
 use mathlib.Core.Option.{none}
-use lib.ListN.{length, getD, drop, replicate}
+use lib.ListN.{length, getD, drop}
 use lib.Seq.{drop-cons, drop-drop, drop-length}
 use borrow.Author.Tests.{eq-eqb}
 use Rattle.wcsp.specs.Sign.{has}
-use Rattle.wcsp.specs.Clause.{InRange, AllPositive, nil, cons, falsifies, same, bucket}
-use Rattle.wcsp.specs.Row.{Row, falsified, weightOf, emptyWeight, ValidRows, nilRows, consRows}
+use Rattle.wcsp.specs.Clause.{InRange, AllPositive, nil, cons, falsifies, bucket}
+use Rattle.wcsp.specs.Row.{Row, falsified, ValidRows}
 use Rattle.wcsp.specs.Resolve.{nextPair}
 use Rattle.wcsp.specs.Rebuild.{counts, rebuiltValue, rebuiltOver, rebuilt, tailWeight}
 use Rattle.wcsp.specs.Theorems.{Completeness, Optimality}
-use Rattle.wcsp.proofs.Lists.{same-refl, same-eq, along-length}
+use Rattle.wcsp.proofs.Lists.{along-length}
 use Rattle.wcsp.proofs.Validity.{valid-signs}
 use Rattle.wcsp.proofs.PairSearch.{signsAt, never}
-use Rattle.wcsp.proofs.EmptyRow.{falsifies-empty, falsified-cons, falsified-yes, falsified-no, weightOf-same, weightOf-other, weightOf-absent, emptyBelow}
-use Rattle.wcsp.proofs.Buckets.{bucket-empty, falsifies-drop, falsifies-at}
+use Rattle.wcsp.proofs.EmptyRow.{falsified-cons, falsified-yes, falsified-no, emptyBelow}
+use Rattle.wcsp.proofs.Buckets.{falsifies-drop, falsifies-at}
 use Rattle.wcsp.proofs.Rebuilding.{value-in-range, value-in-signs}
-use Rattle.wcsp.proofs.Tails.{tail-exact}
+use Rattle.wcsp.proofs.Tails.{tail-exact, tailOfNone}
 
 -- who falsifies fewer rows falsifies no more weight
 pub falsified-mono : (p q : List ℕ) (rs : List Row)
@@ -122,27 +122,12 @@ completeness ds rs k q pos valid done l h = record {
 
 -- ---- the optimum
 
--- where every row but that of the signs c is satisfied, the weight of that row is all that is falsified
-pub only-row : (c p : List ℕ) {ds : List ℕ} {rs : List Row} → ValidRows ds rs → falsifies p c ≡ true
-    → ((i : ℕ) → i < length rs → same (signsAt rs i) c ≡ false → falsifies p (signsAt rs i) ≡ false) → falsified p rs ≡ weightOf c rs
-unfolding falsified weightOf
-only-row c p nilRows f h = refl
-only-row c p (consRows {r = r} {rs = rs} v w a t) f h =
-    go (same (r .signs) c) refl (only-row c p t f (λ i l. h (suc i) (suc-le-suc l)))
-  where
-    go : (b : Bool) → same (r .signs) c ≡ b → falsified p rs ≡ weightOf c rs → falsified p (r ∷ rs) ≡ weightOf c (r ∷ rs)
-    go true e ih =
-        let s = same-eq (r .signs) c e in
-        let none-left : weightOf c rs ≡ 0 = ap (λ x. weightOf x rs) (sym s) ∙ weightOf-absent (r .signs) a in
-        let hit : falsifies p (r .signs) ≡ true = ap (falsifies p) s ∙ f in
-        omega (arith, falsified-yes p r rs hit, weightOf-same c r rs e)
-    go false e ih = falsified-no p r rs (h 0 (omega arith) e) ∙ ih ∙ sym (weightOf-other c r rs e)
-
+-- with no value given the rows without lower variables are the empty one
 pub optimality : Optimality
-unfolding rebuilt emptyWeight
+unfolding rebuilt
 optimality ds rs pos valid done = record {
   inRange = over-in-range ds rs pos valid done n [] (le-refl n) none-given;
-  attained = only-row (replicate n 0) (rebuilt ds rs) valid (falsifies-empty (rebuilt ds rs) n) others;
+  attained = over-exact ds rs pos valid done n [] (le-refl n) none-given ∙ tailOfNone ds rs valid;
   least = λ p r. emptyBelow ds rs p r;
 }
   where
@@ -151,18 +136,3 @@ optimality ds rs pos valid done = record {
 
     none-given : InRange (drop n ds) []
     none-given = rw drop-length nil
-
-    others : (i : ℕ) → i < length rs → same (signsAt rs i) (replicate n 0) ≡ false → falsifies (rebuilt ds rs) (signsAt rs i) ≡ false
-    others i l e = go (decLt (bucket (signsAt rs i)) n)
-      where
-        c : List ℕ
-        c = signsAt rs i
-
-        long : n ≡ length c
-        long = along-length (valid-signs i valid l)
-
-        go : Dec (bucket c < n) → falsifies (rebuilt ds rs) c ≡ false
-        go (yes b) = over-satisfies ds rs pos valid done n [] (le-refl n) none-given i l b
-        go (no b) =
-            let empty : c ≡ replicate n 0 = bucket-empty c (omega (arith, long)) ∙ ap (λ m. replicate m 0) (sym long) in
-            never (same c (replicate n 0)) (ap (same c) (sym empty) ∙ same-refl c) e

@@ -168,8 +168,3 @@ lowest-has (suc d) S h l = go (S % 2) refl (λ p q. lowest-has d (S / 2) p q)
         rw (e) (suc-le-suc b, has-step S (lowest d (S / 2)) ∙ f)
     go (suc zero) e r = rw (e) (omega arith, has-head S ∙ ap (λ n. eqb n 1) e)
     go (suc (suc a)) e r = absurd (omega arith)
-
-pub lowest-full : (d : ℕ) → 0 < d → lowest d (full d) ≡ 0
-unfolding full lowest
-lowest-full zero h = absurd (omega arith)
-lowest-full (suc d) h = let p = pow-pos d in let e : (2 ^ suc d - 1) % 2 ≡ 1 = omega arith in rw e

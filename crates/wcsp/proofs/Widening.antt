@@ -12,7 +12,7 @@ use Rattle.wcsp.proofs.NextPair.{nextIsLeast}
 use Rattle.wcsp.proofs.WideningRows.{length-wide, heavy-wide, empty-wide, falsified-wide, resolve-wide, spanning-resolve}
 use Rattle.wcsp.proofs.WideningTables.{valid-spanning, wideTrims, trimmedValid, trimmedWide}
 use Rattle.wcsp.proofs.WideningSearch.{widened-length, next-wide, may-wide, may-narrow}
-use Rattle.wcsp.proofs.WideningRebuilt.{over-own, rebuilt-wide, rebuilt-own}
+use Rattle.wcsp.proofs.WideningRebuilt.{over-own}
 use Rattle.wcsp.proofs.Tails.{tail-wide}
 
 module _ (k : ℕ) (ds : List ℕ) where
@@ -33,8 +33,6 @@ module _ (k : ℕ) (ds : List ℕ) where
     may = λ pr. (may-narrow k ds own s pr, may-wide k ds own s pr);
     resolved = λ pr m. step-wide own s pr m .0;
     ownResolved = λ pr m. ap (trimmed (length ds)) (step-wide own s pr m .0) ∙ trimmedWide k (length ds) _ (step-wide own s pr m .1);
-    assignment = rebuilt-wide k ds own s;
-    ownAssignment = rebuilt-own k ds own s;
     ownCompleted = λ f q e. over-own k ds f q own s e;
     tail = λ f q e. tail-wide k f q own (rw (← e) at s);
   }

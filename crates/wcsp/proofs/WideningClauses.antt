@@ -7,8 +7,7 @@ use mathlib.Core.Bool.{Bool, true, false, not, _&&_, _||_, cond}
 use mathlib.Core.List.{List, [], _∷_, _++_, map, map-append, append-cancel-right}
 use lib.ListN.{length, getD, set, replicate, length-set, List·getD-eq-default}
 use lib.Bits.{bitAnd, bitOr, and-zero-l, or-zero-l}
-use lib.Dec.{eqb, eqb·zero-suc, eqb·suc-zero, eqb·suc-suc}
-use borrow.Author.Tests.{ne-eqb}
+use lib.Dec.{eqb, eqb·suc-zero, eqb·suc-suc}
 use Rattle.wcsp.specs.Sign.{has, full, complement, within, present}
 use Rattle.wcsp.specs.Clause.{falsifies, tautology, same, bucket}
 use Rattle.wcsp.specs.Rule.{joined, others, excluding, conclusions, clashing, nested, permitted}
@@ -150,7 +149,7 @@ nonePermitted ds s x y h = rw (List·getD-eq-default x 0 h)
 
 -- ---- buckets
 
--- the bucket of a widened clause, seen from a variable of the field's own, and from a further one
+-- the bucket of a widened clause, seen from a variable of the field's own
 pub bucket-wide : (k : ℕ) (c : List ℕ) (s : ℕ) → s < length c → eqb (bucket (wide k c)) s ≡ eqb (bucket c) s
 unfolding bucket
 bucket-wide k [] s h = absurd (omega arith)
@@ -167,16 +166,6 @@ pub bucket-zeros : (k : ℕ) → bucket (replicate k 0) ≡ k
 unfolding bucket
 bucket-zeros zero = refl
 bucket-zeros (suc k) = ap suc (bucket-zeros k)
-
-pub bucket-past : (k : ℕ) (c : List ℕ) (s : ℕ) → length c ≤ s → s < length c + k → eqb (bucket (wide k c)) s ≡ false
-unfolding bucket
-bucket-past k [] s h l = rw bucket-zeros (ne-eqb k s (λ e. omega arith))
-bucket-past k (S ∷ c) zero h l = absurd (omega arith)
-bucket-past k (S ∷ c) (suc s) h l = go (eqb S 0) (bucket-past k c s (omega arith) (omega arith))
-  where
-    go : (b : Bool) → eqb (bucket (wide k c)) s ≡ false → eqb (cond b (suc (bucket (wide k c))) 0) (suc s) ≡ false
-    go true ih = eqb·suc-suc (bucket (wide k c)) s ∙ ih
-    go false ih = eqb·zero-suc s
 
 -- ---- tautologies and what an assignment falsifies
 

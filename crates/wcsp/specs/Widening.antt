@@ -10,7 +10,7 @@ use Rattle.wcsp.specs.Row.{Row, falsified, emptyWeight, heavy, ValidRows
 use Rattle.wcsp.specs.Entry.{Entry, WellFormed, encoded}
 use Rattle.wcsp.specs.Rule.{permitted}
 use Rattle.wcsp.specs.Resolve.{Pair, nextPair, resolve, MayResolve, Steps, Replays}
-use Rattle.wcsp.specs.Rebuild.{rebuilt, rebuiltOver, tailWeight}
+use Rattle.wcsp.specs.Rebuild.{rebuiltOver, tailWeight}
 
 -- the sizes with k more variables, of one value each
 abbrev pub widened : ℕ → List ℕ → List ℕ
@@ -80,8 +80,8 @@ WidePermitted = (k : ℕ) (ds : List ℕ) (s : ℕ) (x y : List ℕ) → length 
 abbrev pub NonePermitted : Type 0
 NonePermitted = (ds : List ℕ) (s : ℕ) (x y : List ℕ) → length x ≤ s → permitted ds s x y ≡ false
 
--- rows over the widened sizes and the field's own rows say the same: next pair, permitted pairs, step, rebuilt assignment, also over given
--- values from variable s on, weights
+-- rows over the widened sizes and the field's own rows say the same: next pair, permitted pairs, step, the assignment rebuilt over given values
+-- from variable s on (over none with s the number of variables), weights
 pub record Widens (k : ℕ) (ds : List ℕ) (own rows : List Row) : Type 0 where
   pub count : length rows ≡ length own
   pub heavyAs : (L : ℕ) → heavy L rows ≡ heavy L own
@@ -91,8 +91,6 @@ pub record Widens (k : ℕ) (ds : List ℕ) (own rows : List Row) : Type 0 where
   pub may : (pr : Pair) → MayResolve (widened k ds) rows pr ↔ MayResolve ds own pr
   pub resolved : (pr : Pair) → MayResolve ds own pr → resolve (widened k ds) pr rows ≡ wideRows k (resolve ds pr own)
   pub ownResolved : (pr : Pair) → MayResolve ds own pr → trimmed (length ds) (resolve (widened k ds) pr rows) ≡ resolve ds pr own
-  pub assignment : rebuilt (widened k ds) rows ≡ wideValues k (rebuilt ds own)
-  pub ownAssignment : take (length ds) (rebuilt (widened k ds) rows) ≡ rebuilt ds own
   pub ownCompleted : (s : ℕ) (q : List ℕ) → s + length q ≡ length ds
       → take (length ds) (rebuiltOver (widened k ds) rows s (wideValues k q)) ≡ rebuiltOver ds own s q
   pub tail : (s : ℕ) (q : List ℕ) → s + length q ≡ length ds → tailWeight s q rows ≡ tailWeight s q own
