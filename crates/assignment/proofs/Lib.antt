@@ -7,5 +7,7 @@ pub mod Lacking
 pub mod Choosing
 pub mod Tables
 pub mod Hunting
+pub mod Forbidding
 pub mod Planning
 pub mod Order
+mod Witness

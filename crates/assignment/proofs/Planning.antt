@@ -10,23 +10,26 @@ use lib.ListN.{length, drop, replicate, replicate-append-replicate}
 use lib.Seq.{slice, slice-empty, drop-length}
 use borrow.Author.Tests.{lt-ltb, le-ltb}
 use Rattle.wcsp.specs.Clause.{InRange, nil}
+use Rattle.wcsp.specs.Row.{emptyWeight}
 use Rattle.wcsp.specs.Resolve.{Pair}
 use Rattle.wcsp.specs.Rebuild.{rebuilt}
 use Rattle.clause.specs.declared.Clause.{Clause}
 use Rattle.clause.specs.Packed.{Holds}
+use Rattle.fields.specs.Limits.{maxVariables, forbiddenCost}
 use Rattle.fields.specs.Padding.{lacking}
 use Rattle.table.specs.declared.Shape.{Shape}
 use Rattle.table.specs.declared.Checked.{Checked}
 use Rattle.table.specs.declared.Checked.the-variants.{Table, Invalid}
-use Rattle.table.specs.Meaning.{variablesOf, tableSizes}
+use Rattle.table.specs.Meaning.{variablesOf, rowCount, tableSizes, tableRows}
 use Rattle.table.specs.Valid.{validTable}
 use Rattle.table.specs.Check.{shapeOf, checkTable}
 use Rattle.table.proofs.Finishing.{valid-variables}
 use Rattle.table.proofs.Tested.{table-valid, table-invalid}
-use Rattle.assignment.specs.Calls.{PlanReturned, tableAssignment, tableCompletion, planOn, planCall}
+use Rattle.assignment.specs.Calls.{PlanReturned, tableAssignment, tableCompletion, emptyForbids, planOn, planCall}
 use Rattle.assignment.specs.Order.{isLeft, tablePair}
 use Rattle.assignment.specs.Chosen.{carriedSigns, Ready}
-use Rattle.assignment.proofs.Tables.{few-sizes, variables-are}
+use Rattle.assignment.proofs.Tables.{few-sizes, few-variables, variables-are}
+use Rattle.assignment.proofs.Forbidding.{forbids, forbids-not}
 
 -- what the call returns and leaves
 abbrev pub PlanLeft : List ℕ → List ℕ → ℕ → List ℕ → Type 0
@@ -43,6 +46,15 @@ plan-left : (t target : List ℕ) (o : Option Pair) → true ≡ isLeft o → pl
 unfolding planOn isLeft
 plan-left t target none e = absurd (false≢true (sym e))
 plan-left t target (some pr) e = refl
+
+pub plan-forbidden : (t target : List ℕ) → emptyForbids t ≡ true → planOn t target none ≡ record { number = 15; target = target }
+unfolding planOn
+plan-forbidden t target e = rw e
+
+pub plan-allowed : (t target : List ℕ) → emptyForbids t ≡ false
+    → planOn t target none ≡ record { number = 0; target = tableAssignment t ++ drop (variablesOf t) target }
+unfolding planOn
+plan-allowed t target e = rw e
 
 -- ---- the definition's cases
 
@@ -87,6 +99,13 @@ module _ (t : List ℕ) (checked : Checked) (answer : checked ≡ checkTable t) 
     variables : shape .variables ≡ variablesOf t
     variables = variables-are t (told .0) shape (told .1)
 
+    pub variables-few : shape .variables ≤ 12
+    variables-few = few-variables t (told .0) shape (told .1)
+
+    -- what the empty row's weight is read with
+    pub may-weigh : (validTable t ≡ true) × (shape .variables + 2 ≡ variablesOf t + 2) × (shape .count ≡ rowCount t)
+    may-weigh = (told .0, ap (λ n. n + 2) variables, ap (λ s. s .count) (told .1))
+
     pub too-short : (target : List ℕ) → length target < shape .variables → PlanLeft t target 10 target
     too-short target h = sym (call-short t target (told .0) (omega (arith, variables)))
 
@@ -101,6 +120,12 @@ module _ (t : List ℕ) (checked : Checked) (answer : checked ≡ checkTable t) 
         none-left : tablePair t ≡ none
         none-left = left-none (tablePair t) (sym e ∙ asked)
 
+        call-done : planCall t target ≡ planOn t target none
+        call-done = call-on t target (told .0) in-target ∙ ap (planOn t target) none-left
+
+        pub forbidden : (w : ℕ) → w ≡ emptyWeight maxVariables (tableRows t) → forbiddenCost ≤ w → PlanLeft t target 15 target
+        forbidden w q h = sym (call-done ∙ plan-forbidden t target (forbids t (told .0) w q h))
+
         pub ready : (chosen : Clause) → Holds chosen (replicate 12 0) → Ready t shape (shape .variables) chosen target
         ready chosen h =
             subst (λ k. Ready t shape k chosen target) (sym variables)
@@ -114,11 +139,10 @@ module _ (t : List ℕ) (checked : Checked) (answer : checked ≡ checkTable t) 
               carried = rw (slice-empty (variablesOf t) target, ← none-carried t (told .0)) h;
             })
 
-        pub rebuilt-all : (after : List ℕ)
+        pub rebuilt-all : (w : ℕ) → w ≡ emptyWeight maxVariables (tableRows t) → w < forbiddenCost → (after : List ℕ)
             → after ≡ tableCompletion t (shape .variables) (slice (shape .variables) (variablesOf t) target) ++ drop (variablesOf t) target
             → PlanLeft t target 0 after
-        unfolding planOn
-        rebuilt-all after q =
+        rebuilt-all m a h after q =
             let w = slice-empty (variablesOf t) target in
             let p = rw (variables, w, nothing-over t (told .0)) at q in
-            ap (λ l. record { number = 0; target = l }) p ∙ sym (call-on t target (told .0) in-target ∙ ap (planOn t target) none-left)
+            ap (λ l. record { number = 0; target = l }) p ∙ sym (call-done ∙ plan-allowed t target (forbids-not t (told .0) m a h))

@@ -1,12 +1,14 @@
 -- The plan call: its number and its target bytes, for good and refused calls alike.
 use Prim.Native.Nat.{ℕ}
-use mathlib.Core.Bool.{cond}
+use mathlib.Core.Bool.{Bool, cond}
 use mathlib.Core.List.{List, _++_}
 use mathlib.Core.Option.{Option, none, some}
 use lib.ListN.{length, drop}
-use lib.Dec.{ltb}
+use lib.Dec.{leb, ltb}
+use Rattle.wcsp.specs.Row.{emptyWeight}
 use Rattle.wcsp.specs.Resolve.{Pair, nextPair}
 use Rattle.wcsp.specs.Rebuild.{rebuilt, rebuiltOver}
+use Rattle.fields.specs.Limits.{forbiddenCost}
 use Rattle.table.specs.Meaning.{variablesOf, tableSizes, ownRows}
 use Rattle.table.specs.Valid.{validTable}
 
@@ -23,13 +25,19 @@ tableAssignment t = rebuilt (tableSizes t) (ownRows t)
 unfoldable pub tableCompletion : List ℕ → ℕ → List ℕ → List ℕ
 tableCompletion t k q = rebuiltOver (tableSizes t) (ownRows t) k q
 
--- 13 while a pair remains
+-- the empty row weighs as much as a forbidden entry, or more (document 02, spots nobody may core)
+unfoldable pub emptyForbids : List ℕ → Bool
+emptyForbids t = leb forbiddenCost (emptyWeight (variablesOf t) (ownRows t))
+
+-- 13 while a pair remains; then 15
 unfoldable pub planOn : List ℕ → List ℕ → Option Pair → PlanReturned
-unfolding tableAssignment
-planOn t target none = record { number = 0; target = tableAssignment t ++ drop (variablesOf t) target }
+unfolding tableAssignment emptyForbids
+planOn t target none =
+    cond (emptyForbids t) (record { number = 15; target = target })
+    (record { number = 0; target = tableAssignment t ++ drop (variablesOf t) target })
 planOn t target (some pr) = record { number = 13; target = target }
 
--- plan: 9, 10 for a target shorter than n bytes, 13; else n bytes, the rest of the target kept
+-- plan: 9, 10 for a target shorter than n bytes, 13, 15; else n bytes, the rest of the target kept
 unfoldable pub planCall : List ℕ → List ℕ → PlanReturned
 unfolding planOn
 planCall t target =

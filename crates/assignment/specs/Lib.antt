@@ -2,3 +2,4 @@
 pub mod Calls
 pub mod Order
 pub mod Chosen
+pub mod Witness

@@ -9,7 +9,7 @@ use Rattle.wcsp.specs.Resolve.{Pair, nextPair}
 use Rattle.fields.specs.Order.{Test, _if_, FirstInOrder}
 use Rattle.table.specs.Meaning.{variablesOf, tableSizes, ownRows}
 use Rattle.table.specs.Valid.{validTable}
-use Rattle.assignment.specs.Calls.{planCall}
+use Rattle.assignment.specs.Calls.{emptyForbids, planCall}
 
 -- a pair is left
 unfoldable pub isLeft : Option Pair → Bool
@@ -20,9 +20,14 @@ isLeft (some pr) = true
 abbrev pub tablePair : List ℕ → Option Pair
 tablePair t = nextPair (tableSizes t) (ownRows t)
 
--- 9 for an invalid table; 10 for a target shorter than n bytes; 13 while a pair remains
+-- 9 for an invalid table; 10 for a target shorter than n bytes; 13 while a pair remains; 15 for an empty row as heavy as a forbidden entry
 abbrev pub testsOfPlan : List ℕ → List ℕ → List Test
-testsOfPlan t target = 9 if not (validTable t) ∷ 10 if ltb (length target) (variablesOf t) ∷ 13 if isLeft (tablePair t) ∷ []
+testsOfPlan t target =
+    9 if not (validTable t)
+    ∷ 10 if ltb (length target) (variablesOf t)
+    ∷ 13 if isLeft (tablePair t)
+    ∷ 15 if emptyForbids t
+    ∷ []
 
 abbrev pub PlanInOrder : Type 0
 PlanInOrder = (t target : List ℕ) → FirstInOrder (testsOfPlan t target) (planCall t target .number)

@@ -85,7 +85,7 @@ pub fn pair_left(t: &[u32], shape: Shape) -> bool
     }
 }
 
-// Plan: 9, 10, 13; else the assignment in the first n bytes, the rest of the target kept.
+// Plan: 9, 10, 13, 15; else the assignment in the first n bytes, the rest of the target kept.
 pub fn plan(t: &[u32], target: &mut [u8]) -> u32
     ensures returned { λ r. ⌜ record { number = r; target = now (target .exit) } ≡ planCall (now (t .entry)) (now (target .entry)) ⌝ }
 {
@@ -99,6 +99,9 @@ pub fn plan(t: &[u32], target: &mut [u8]) -> u32
     }
     if pair_left(t, shape) {
         return 13;
+    }
+    if fields::FORBIDDEN_COST as u64 <= table::empty_weight(t, n + 2, shape.count) {
+        return 15;
     }
     rebuild(t, shape, n, Clause::empty(), target);
     0

@@ -36,13 +36,17 @@ module _ (k : ℕ) where
   unfolding refusalColumn
   twelve-answers e = rw e
 
+  pub fifteen-answers : k ≡ 15 → 8 ≡ refusalColumn k
+  unfolding refusalColumn
+  fifteen-answers e = rw e
+
   pub below-answers : k < 1 → columnCount ≡ refusalColumn k
   unfolding refusalColumn
-  below-answers h = rw (lt-leb 1 k h, ne-eqb k 10 (omega (arith, h)), ne-eqb k 12 (omega (arith, h)))
+  below-answers h = rw (lt-leb 1 k h, ne-eqb k 10 (omega (arith, h)), ne-eqb k 12 (omega (arith, h)), ne-eqb k 15 (omega (arith, h)))
 
-  pub above-answers : 5 < k → (k ≡ 10 → ⊥) → (k ≡ 12 → ⊥) → columnCount ≡ refusalColumn k
+  pub above-answers : 5 < k → (k ≡ 10 → ⊥) → (k ≡ 12 → ⊥) → (k ≡ 15 → ⊥) → columnCount ≡ refusalColumn k
   unfolding refusalColumn
-  above-answers h n m = rw (le-leb 1 k (omega (arith, h)), lt-leb k 5 h, ne-eqb k 10 n, ne-eqb k 12 m)
+  above-answers h n m l = rw (le-leb 1 k (omega (arith, h)), lt-leb k 5 h, ne-eqb k 10 n, ne-eqb k 12 m, ne-eqb k 15 l)
 
 module _ (ending : Ending) where
   pub planned-column : ending ≡ Ending.Planned → plannedColumn ≡ columnOf ending
@@ -53,11 +57,11 @@ module _ (ending : Ending) where
   unfolding columnOf
   refused-column k column e f = rw e f
 
-  pub paused-column : ending ≡ Ending.Paused → 8 ≡ columnOf ending
+  pub paused-column : ending ≡ Ending.Paused → 9 ≡ columnOf ending
   unfolding columnOf
   paused-column e = rw e
 
-  pub full-column : ending ≡ Ending.Full → 9 ≡ columnOf ending
+  pub full-column : ending ≡ Ending.Full → 10 ≡ columnOf ending
   unfolding columnOf
   full-column e = rw e
 
@@ -135,5 +139,5 @@ module _ (s : Season) (a : Bool) (e : a ≡ isCut (s .phase)) where
 
 -- the line put in front of a buffer
 pub line-put : (s : Season) (f : Figures) (after : List ℕ) (end : ℕ) → f ≡ finishedFigures s
-    → Put (replicate 512 0) 0 (figuresLine f) after end → end ≤ 274 → (take end after ≡ finishedLine s) × (end ≤ length after)
+    → Put (replicate 512 0) 0 (figuresLine f) after end → end ≤ 295 → (take end after ≡ finishedLine s) × (end ≤ length after)
 line-put s f after end e p h = (p .0 ∙ ap figuresLine e, omega arith)

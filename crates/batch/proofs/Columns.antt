@@ -4,15 +4,15 @@ use native.Mathlib.Omega.{arith}
 use mathlib.Core.Path.{_≡_}
 use mathlib.Core.List.{List}
 use borrow.Author.Tests.{le-leb}
-use Rattle.fields.specs.Limits.{greatestCost}
-use Rattle.fields.proofs.Costs.{entries-costs}
+use Rattle.fields.specs.Limits.{greatestAllowed}
+use Rattle.fields.proofs.Forbidden.{allowed-costs}
 use Rattle.input.proofs.Acceptance.{faultlessIsAccepted}
 use Rattle.making.specs.Made.{madeWords}
 use Rattle.making.proofs.Reading.{made-accepted}
 use Rattle.littleendian.specs.Words.{wordsIn}
 use Rattle.planning.specs.declared.Solved.{Solved}
 use Rattle.planning.specs.Solving.{refusedSolved, solvedOf}
-use Rattle.planning.specs.Theorems.{SheetMeans, faulty, longInstance, manyRows, planned, paused, full, Means, tooLong, noWords, ofWords}
+use Rattle.planning.specs.Theorems.{SheetMeans, faulty, longInstance, manyRows, noneAllowed, planned, paused, full, Means, tooLong, noWords, ofWords}
 use Rattle.planning.proofs.Meaning.{solvedMeans}
 use Rattle.figures.specs.declared.Figures.{Figures}
 use Rattle.figures.specs.Counting.{columnCount, plannedColumn, counted}
@@ -42,12 +42,16 @@ pub many-column : OwnColumn (refusalColumn 12)
 unfolding refusalColumn
 many-column = record { within = omega arith; other = λ e. omega (arith, e) }
 
+pub forbidden-column : OwnColumn (refusalColumn 15)
+unfolding refusalColumn
+forbidden-column = record { within = omega arith; other = λ e. omega (arith, e) }
+
 -- ---- what bytes come to
 
 -- what a value is known to be as one of a season's sheets
 pub record Countable (s : Solved) : Type 0 where
   pub within : columnOf (s .ending) < columnCount
-  pub cheap : columnOf (s .ending) ≡ plannedColumn → s .bound ≤ greatestCost
+  pub cheap : columnOf (s .ending) ≡ plannedColumn → s .bound ≤ greatestAllowed
 
 refused-countable : (k : ℕ) → OwnColumn (refusalColumn k) → Countable (refusedSolved k)
 unfolding columnOf
@@ -64,9 +68,10 @@ unfolding columnOf
 sheet-countable sheet _ (faulty k e low high) = refused-countable k (fault-column k low high)
 sheet-countable sheet _ (longInstance e h) = long-countable
 sheet-countable sheet _ (manyRows e h m) = refused-countable 12 many-column
-sheet-countable sheet _ (planned plan steps least h b r) =
+sheet-countable sheet _ (noneAllowed steps b h f r) = refused-countable 15 forbidden-column
+sheet-countable sheet _ (planned plan steps least h b f r) =
     let a = faultlessIsAccepted (madeWords sheet) (made-accepted sheet (h .fine) .accepted) in
-    record { within = omega arith; cheap = λ e. rw (← b .attained) (entries-costs (a .entries) _) }
+    record { within = omega arith; cheap = λ e. rw (← b .attained) (allowed-costs (a .entries) _ f) }
 sheet-countable sheet _ (paused steps b h n r) = record { within = omega arith; cheap = λ e. absurd (omega (arith, e)) }
 sheet-countable sheet _ (full steps b h n r) = record { within = omega arith; cheap = λ e. absurd (omega (arith, e)) }
 
@@ -86,7 +91,7 @@ sheet-in-column (whole bytes) = solved-countable bytes
 
 -- bytes that come to a value, as its column is counted
 module _ (bytes : List ℕ) (s : Solved) (column : ℕ) (e : s ≡ solvedOf bytes) (h : column ≡ columnOf (s .ending)) where
-  pub bytes-countable : (column < columnCount) × (column ≡ plannedColumn → s .bound ≤ greatestCost)
+  pub bytes-countable : (column < columnCount) × (column ≡ plannedColumn → s .bound ≤ greatestAllowed)
   bytes-countable = let known = solved-countable bytes in rw (h, e) (known .within, known .cheap)
 
   pub bytes-counted : (f : Figures) → counted f column (s .bound) ≡ countedSheet f (solvedOf bytes)

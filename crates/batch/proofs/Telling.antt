@@ -8,14 +8,14 @@ use lib.ListN.{length, take, drop, length-map}
 use lib.Dec.{eqb, ltb}
 use borrow.Author.Tests.{eqb-true}
 use Rattle.wcsp.specs.Entry.{LeastCost}
-use Rattle.fields.specs.Limits.{greatestCost}
+use Rattle.fields.specs.Limits.{greatestAllowed}
 use Rattle.fields.specs.Entries.{Each, nilEach, consEach}
 use Rattle.input.specs.Instance.{sizesOf, entriesOf}
 use Rattle.making.specs.Made.{madeWords}
 use Rattle.littleendian.specs.Words.{wordAt, wordsIn}
 use Rattle.planning.specs.declared.Solved.{Solved}
 use Rattle.planning.specs.Solving.{solvedOf}
-use Rattle.planning.specs.Theorems.{Held, SheetMeans, faulty, longInstance, manyRows, planned, paused, full, Means, tooLong, noWords, ofWords}
+use Rattle.planning.specs.Theorems.{Held, SheetMeans, faulty, longInstance, manyRows, noneAllowed, planned, paused, full, Means, tooLong, noWords, ofWords}
 use Rattle.planning.proofs.Meaning.{solvedMeans}
 use Rattle.cutting.specs.Cutting.{longestSheet}
 use Rattle.figures.specs.Counting.{plannedColumn, mostSheets}
@@ -24,7 +24,7 @@ use Rattle.figures.proofs.Tallies.{countsAddUp}
 use Rattle.figures.proofs.Largest.{largestIsFirst, sumIsBounded}
 use Rattle.batch.specs.Season.{Sheet, cutOff, passedOver, whole, sheetsBehind, sheetsIn, solvedSheet, columnOf, figureOfSheet, seasonSheets}
 use Rattle.batch.specs.Theorems.{PlannedAt, SeasonMeans}
-use Rattle.batch.proofs.Columns.{OwnColumn, cut-column, long-column, fault-column, many-column, sheet-in-column}
+use Rattle.batch.proofs.Columns.{OwnColumn, cut-column, long-column, fault-column, many-column, forbidden-column, sheet-in-column}
 use Rattle.batch.proofs.Meaning.{every}
 
 -- ---- the sheets
@@ -62,10 +62,11 @@ unfolding columnOf
 sheet-least sheet _ (faulty k e low high) p = not-planned (fault-column k low high) p
 sheet-least sheet _ (longInstance e h) p = not-planned long-column p
 sheet-least sheet _ (manyRows e h m) p = not-planned many-column p
-sheet-least sheet _ (planned plan steps least h b r) p =
+sheet-least sheet _ (noneAllowed steps b h f r) p = not-planned forbidden-column p
+sheet-least sheet _ (planned plan steps least h b f r) p =
     (h, record { assignment = _; inRange = b .inRange; attained = b .attained; least = b .least })
-sheet-least sheet _ (paused steps b h n r) p = absurd (let z = eqb-true 8 plannedColumn p in omega (arith, z))
-sheet-least sheet _ (full steps b h n r) p = absurd (let z = eqb-true 9 plannedColumn p in omega (arith, z))
+sheet-least sheet _ (paused steps b h n r) p = absurd (let z = eqb-true 9 plannedColumn p in omega (arith, z))
+sheet-least sheet _ (full steps b h n r) p = absurd (let z = eqb-true 10 plannedColumn p in omega (arith, z))
 
 bytes-least : (bytes : List ℕ) → eqb (columnOf (solvedOf bytes .ending)) plannedColumn ≡ true → LeastOf (wordsIn bytes) (solvedOf bytes .bound)
 unfolding columnOf
@@ -86,13 +87,13 @@ every-planned : (sheets : List Sheet) → Each (λ sheet. isPlanned (figureOfShe
 every-planned [] = nilEach
 every-planned (s ∷ sheets) = consEach (planned-at s) (every-planned sheets)
 
-costs-cheap : (sheets : List Sheet) → Each (λ k. k ≤ greatestCost) (costsOf (map figureOfSheet sheets))
+costs-cheap : (sheets : List Sheet) → Each (λ k. k ≤ greatestAllowed) (costsOf (map figureOfSheet sheets))
 unfolding costsOf
 costs-cheap [] = nilEach
 costs-cheap (s ∷ sheets) = go (isPlanned (figureOfSheet s)) refl (costs-cheap sheets)
   where
-    go : (b : Bool) → isPlanned (figureOfSheet s) ≡ b → Each (λ k. k ≤ greatestCost) (costsOf (map figureOfSheet sheets))
-        → Each (λ k. k ≤ greatestCost) (cond b (figureOfSheet s .cost ∷ costsOf (map figureOfSheet sheets)) (costsOf (map figureOfSheet sheets)))
+    go : (b : Bool) → isPlanned (figureOfSheet s) ≡ b → Each (λ k. k ≤ greatestAllowed) (costsOf (map figureOfSheet sheets))
+        → Each (λ k. k ≤ greatestAllowed) (cond b (figureOfSheet s .cost ∷ costsOf (map figureOfSheet sheets)) (costsOf (map figureOfSheet sheets)))
     go true e rest = consEach (sheet-in-column s .cheap (eqb-true (figureOfSheet s .column) plannedColumn e)) rest
     go false e rest = rest
 

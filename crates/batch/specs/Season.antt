@@ -46,15 +46,15 @@ solvedSheet cutOff = refusedSolved 1
 solvedSheet passedOver = refusedSolved 10
 solvedSheet (whole bytes) = solvedOf bytes
 
--- the columns: planned, refused under 1 to 5, 10, 12 (no sheet meets another number), paused, full
+-- the columns: planned, refused under 1 to 5, 10, 12, 15 (no sheet meets another number), paused, full
 unfoldable pub refusalColumn : ℕ → ℕ
-refusalColumn k = cond (between 1 k 5) k (cond (eqb k 10) 6 (cond (eqb k 12) 7 columnCount))
+refusalColumn k = cond (between 1 k 5) k (cond (eqb k 10) 6 (cond (eqb k 12) 7 (cond (eqb k 15) 8 columnCount)))
 
 unfoldable pub columnOf : Ending → ℕ
 columnOf Ending.Planned = plannedColumn
 columnOf (Ending.Refused k) = refusalColumn k
-columnOf Ending.Paused = 8
-columnOf Ending.Full = 9
+columnOf Ending.Paused = 9
+columnOf Ending.Full = 10
 
 -- the cost of a planned sheet is its bound
 abbrev pub figureOf : Solved → SheetFigure

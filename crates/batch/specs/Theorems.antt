@@ -5,7 +5,7 @@ use mathlib.Core.Bool.{true}
 use mathlib.Core.List.{List, [], _∷_, _++_, map}
 use lib.ListN.{length}
 use Rattle.wcsp.specs.Entry.{LeastCost}
-use Rattle.fields.specs.Limits.{greatestCost}
+use Rattle.fields.specs.Limits.{greatestAllowed}
 use Rattle.fields.specs.Entries.{Each}
 use Rattle.littleendian.specs.Words.{wordsIn}
 use Rattle.input.specs.Instance.{sizesOf, entriesOf}
@@ -99,7 +99,7 @@ pub record SeasonTells (file : List ℕ) : Type 0 where
   -- the largest and its sheet
   pub largest : LargestOf (map figureOfSheet (seasonSheets file)) (seasonFigures file .largest) (seasonFigures file .first)
   -- no sum passes 10,000 times the greatest cost of a plan
-  pub bounded : seasonFigures file .sum ≤ mostSheets * greatestCost
+  pub bounded : seasonFigures file .sum ≤ mostSheets * greatestAllowed
 
 abbrev pub SeasonMeans : Type 0
 SeasonMeans = (file : List ℕ) → SeasonTells file

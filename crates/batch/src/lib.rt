@@ -3,7 +3,7 @@ ghost use mathlib.Core.Path.{_≡_};
 ghost use mathlib.Core.Bool.{true};
 ghost use Prim.Native.Nat.{_≤_, _<_, min};
 ghost use lib.ListN.{length, take};
-ghost use Rattle.fields.specs.Limits.{greatestCost};
+ghost use Rattle.fields.specs.Limits.{greatestAllowed};
 ghost use Rattle.cutting.specs.Cutting.{wantedIn};
 ghost use Rattle.figures.specs.Counting.{columnCount, plannedColumn, counted, takesSheet};
 ghost use Rattle.batch.specs.Season.{refusalColumn, columnOf};
@@ -27,16 +27,18 @@ pub struct Line {
     pub length: usize,
 }
 
-// The columns of what is refused under 1, 10 and 12, of what is paused and of what is full.
+// The columns of what is refused under 1, 10, 12 and 15, of what is paused and of what is full.
 const CUT_OFF: usize = 1;
 
 const TOO_LONG: usize = 6;
 
 const TOO_MANY: usize = 7;
 
-const PAUSED: usize = 8;
+const FORBIDDEN: usize = 8;
 
-const FULL: usize = 9;
+const PAUSED: usize = 9;
+
+const FULL: usize = 10;
 
 // A season of which nothing is read.
 pub fn start() -> Season
@@ -56,6 +58,7 @@ fn refusal_column(k: u32) -> usize
         1..=5 => k as usize,
         10 => TOO_LONG,
         12 => TOO_MANY,
+        15 => FORBIDDEN,
         _ => figures::COLUMNS,
     }
 }
@@ -75,7 +78,7 @@ fn column(ending: Ending) -> usize
 // One sheet counted: the next length follows, or nothing after the last.
 fn count(figures: Figures, column: usize, cost: u64) -> Season
     requires { ⌜ (takesSheet figures ≡ true) × (column < columnCount) ⌝ }
-    requires { ⌜ (column ≡ plannedColumn → cost ≤ greatestCost) ⌝ }
+    requires { ⌜ (column ≡ plannedColumn → cost ≤ greatestAllowed) ⌝ }
     ensures { λ r. ⌜ r ≡ behindSheet (counted figures column cost) ⌝ }
 {
     let next = figures::count(figures, column, cost);

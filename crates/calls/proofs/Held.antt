@@ -5,12 +5,13 @@ use mathlib.Core.Bool.{true, false}
 use mathlib.Core.List.{List, [], _++_}
 use mathlib.Core.Option.{Option, none, some}
 use lib.ListN.{length, drop}
-use lib.Dec.{ltb}
-use borrow.Author.Tests.{lt-ltb, le-ltb}
+use lib.Dec.{leb, ltb}
+use borrow.Author.Tests.{le-leb, lt-leb, lt-ltb, le-ltb}
 use Rattle.wcsp.specs.Clause.{InRange}
-use Rattle.wcsp.specs.Row.{Row}
+use Rattle.wcsp.specs.Row.{Row, emptyWeight}
 use Rattle.wcsp.specs.Resolve.{Pair, nextPair}
 use Rattle.wcsp.specs.Rebuild.{rebuilt, rebuiltOver, tailWeight}
+use Rattle.fields.specs.Limits.{forbiddenCost}
 use Rattle.fields.specs.Answers.{good}
 use Rattle.rows.specs.Raw.{maxWeight}
 use Rattle.table.specs.Layout.{capacity, tableWords}
@@ -21,7 +22,8 @@ use Rattle.resolution.specs.Step.{oneStep}
 use Rattle.resolution.specs.Run.{runRows}
 use Rattle.resolution.specs.Calls.{stepReturns, stepCall, runReturns, runCall}
 use Rattle.assignment.specs.Order.{tablePair}
-use Rattle.assignment.specs.Calls.{tableAssignment, tableCompletion, planOn, planCall}
+use Rattle.assignment.specs.Calls.{tableAssignment, tableCompletion, emptyForbids, planOn, planCall}
+use Rattle.assignment.proofs.Planning.{plan-forbidden, plan-allowed}
 use Rattle.completion.specs.Calls.{fixedFit, completionCost, completeOn, completeCall}
 use Rattle.completion.proofs.Fitting.{fits-of}
 use Rattle.completion.proofs.Completing.{call-on, on-good}
@@ -57,10 +59,20 @@ module _ {t : List ℕ} {len : ℕ} {ds : List ℕ} {rs : List Row} (h : Held t 
   unfolding planOn
   plan-early target pr l e = plan-room target (some pr) l e
 
-  pub plan-written : (target : List ℕ) → length ds ≤ length target → nextPair ds rs ≡ none
+  held-forbids : emptyForbids t ≡ leb forbiddenCost (emptyWeight (length ds) rs)
+  unfolding emptyForbids
+  held-forbids = rw (h .variables, h .rows)
+
+  pub plan-heavy : (target : List ℕ) → length ds ≤ length target → nextPair ds rs ≡ none → forbiddenCost ≤ emptyWeight (length ds) rs
+      → planCall t target ≡ record { number = 15; target = target }
+  plan-heavy target l e w = plan-room target none l e ∙ plan-forbidden t target (held-forbids ∙ le-leb forbiddenCost (emptyWeight (length ds) rs) w)
+
+  pub plan-written : (target : List ℕ) → length ds ≤ length target → nextPair ds rs ≡ none → emptyWeight (length ds) rs < forbiddenCost
       → planCall t target ≡ record { number = 0; target = rebuilt ds rs ++ drop (length ds) target }
-  unfolding planOn
-  plan-written target l e = rw (plan-room target none l e, h .variables, held-assignment)
+  plan-written target l e w =
+      plan-room target none l e
+      ∙ plan-allowed t target (held-forbids ∙ lt-leb forbiddenCost (emptyWeight (length ds) rs) w)
+      ∙ rw (h .variables, held-assignment)
 
   -- what a completion comes to in the table's words
   held-cost : (k : ℕ) (q : List ℕ) → completionCost t k q ≡ tailWeight k q rs

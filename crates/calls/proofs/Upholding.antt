@@ -1,4 +1,4 @@
--- Demand 3: its sentences for rows reached by the invariant's steps; and completions, in these and in the table that the checker leaves.
+-- Demand 3: its sentences for rows reached by the invariant's steps; completions and forbidden combinations in these, and in the table that the checker leaves.
 use Prim.Native.Nat.{ℕ, _<_, _≤_, min}
 use native.Mathlib.Omega.{arith}
 use mathlib.Core.Path.{_≡_, refl, sym, ap, _∙_}
@@ -7,17 +7,21 @@ use mathlib.Core.Bool.{Bool, true, false, cond}
 use mathlib.Core.List.{List, [], _∷_}
 use mathlib.Core.Option.{Option, none, some}
 use lib.ListN.{length}
-use lib.Dec.{ltb}
-use borrow.Author.Tests.{lt-ltb, le-ltb}
+use lib.Dec.{leb, ltb}
+use borrow.Author.Tests.{le-leb, lt-leb, leb-true, lt-ltb, le-ltb}
+use Rattle.wcsp.specs.Clause.{InRange}
 use Rattle.wcsp.specs.Row.{Row, emptyWeight}
-use Rattle.wcsp.specs.Entry.{Entry}
+use Rattle.wcsp.specs.Entry.{Entry, cost}
 use Rattle.wcsp.specs.Resolve.{Pair, nextPair, resolve}
 use Rattle.wcsp.specs.Rebuild.{rebuilt, rebuiltOver, tailWeight}
 use Rattle.wcsp.specs.Theorems.{Optimal, BestFrom}
 use Rattle.wcsp.proofs.Bound.{stepsBounded, bound-fixed}
 use Rattle.wcsp.proofs.Completeness.{optimality}
 use Rattle.wcsp.proofs.Least.{best-from}
+use Rattle.fields.specs.Limits.{forbiddenCost}
+use Rattle.fields.specs.Forbidden.{hasForbidden}
 use Rattle.fields.proofs.Costs.{entries-costs}
+use Rattle.fields.proofs.Forbidden.{forbiddenIsDear}
 use Rattle.rows.specs.Raw.{maxWeight}
 use Rattle.table.specs.Layout.{capacity, tableWords}
 use Rattle.table.specs.Meaning.{ownRows}
@@ -32,9 +36,10 @@ use Rattle.checker.proofs.Replaying.{Left, left-held}
 use Rattle.checker.proofs.Claims.{coded-takes, encoded-left, replayed-ended, check-held}
 use Rattle.calls.specs.Calls.{Call, afterCalls, started}
 use Rattle.calls.specs.LastFixed.{CompletesBest, CheckedCompletes}
+use Rattle.calls.specs.AllForbidden.{AllForbidden, ForbidsExactly, CheckedForbids}
 use Rattle.calls.specs.Demand.{StepGives, RunEnds, noneLeft, limitMet, noRoom, Upheld, UpheldFrom, Demand3}
 use Rattle.calls.proofs.Reaching.{reaches-derives, reaches-steps, reaches-left}
-use Rattle.calls.proofs.Held.{held-rows, held-run, plan-short, plan-early, plan-written, complete-written}
+use Rattle.calls.proofs.Held.{held-rows, held-run, plan-short, plan-early, plan-heavy, plan-written, complete-written}
 use Rattle.calls.proofs.Moving.{Moved, step-done, step-left, ran, ran-runs, run-table, moved-left, moved-held, reached}
 
 -- ---- what a run's ending says of its number and its field
@@ -91,6 +96,25 @@ module _ {len : ℕ} {ds : List ℕ} {es : List Entry} (a : Takes len ds es) whe
         = best-from ds es rs (a .sizes .positive) (l .keeps .valid) e (l .keeps .weights) k fixed low r in
         let light : tailWeight k fixed rs ≤ maxWeight = omega (arith, best .attained, entries-costs (a .entries) (rebuiltOver ds rs k fixed)) in
         (complete-written h k fixed target room low r e light, best))
+
+    dear : (p : List ℕ) → leb forbiddenCost (cost es p) ≡ hasForbidden es p
+    dear p = forbiddenIsDear ds 0 es (a .entries) p
+
+    -- by the rebuilt assignment, whose cost is the empty row's weight, and by what no cost is below
+    heavy-all : nextPair ds rs ≡ none → (forbiddenCost ≤ emptyWeight (length ds) rs) ↔ AllForbidden ds es
+    heavy-all e =
+        let m : ℕ = emptyWeight (length ds) rs in
+        let b = best-rows e in (
+          λ (w : forbiddenCost ≤ m) p r. sym (dear p) ∙ le-leb forbiddenCost (cost es p) (omega (arith, b .least p r)),
+          λ (all : AllForbidden ds es).
+              omega (arith, b .attained, leb-true forbiddenCost (cost es (rebuilt ds rs)) (dear (rebuilt ds rs) ∙ all (rebuilt ds rs) (b .inRange))),
+        )
+
+    light-free : nextPair ds rs ≡ none → emptyWeight (length ds) rs < forbiddenCost → hasForbidden es (rebuilt ds rs) ≡ false
+    light-free e w = sym (dear (rebuilt ds rs)) ∙ lt-leb forbiddenCost (cost es (rebuilt ds rs)) (omega (arith, best-rows e .attained))
+
+    pub forbidden-rows : nextPair ds rs ≡ none → ForbidsExactly ds es t′
+    forbidden-rows e = record { exactly = rw (h .rows) (heavy-all e); free = rw (h .rows) (light-free e) }
 
     -- ---- further calls
 
@@ -166,9 +190,11 @@ module _ {len : ℕ} {ds : List ℕ} {es : List Entry} (a : Takes len ds es) whe
           runNumbers = run-numbers l h;
           planShort = plan-short h;
           planEarly = rw (h .rows) (plan-early h);
+          planForbidden = rw (h .rows) (plan-heavy h);
           planWritten = rw (h .rows) (plan-written h);
           best = rw (h .rows) (best-rows l h);
           completed = completed-rows l h;
+          forbidden = rw (h .rows) (forbidden-rows l h);
         }
 
 pub demand-rows : (inst t : List ℕ) → GoodEncoding inst t → (calls : List Call)
@@ -188,3 +214,9 @@ pub checkedCompletes : CheckedCompletes
 checkedCompletes inst derivation plan claimed t e =
     let c = coded inst t e in
     completed-rows (coded-takes inst t c) (replayed-ended inst t c derivation .left) (check-held inst derivation plan claimed t e)
+
+pub checkedForbids : CheckedForbids
+checkedForbids inst derivation plan claimed t e =
+    let c = coded inst t e in
+    let held = check-held inst derivation plan claimed t e in
+    rw (held .rows) (forbidden-rows (coded-takes inst t c) (replayed-ended inst t c derivation .left) held)

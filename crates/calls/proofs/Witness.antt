@@ -6,13 +6,14 @@ use Rattle.wcsp.specs.Row.{emptyWeight, addAll, weightOf, heavy}
 use Rattle.wcsp.specs.Entry.{encoded, cost, matches}
 use Rattle.wcsp.specs.Rule.{conclusions, permitted}
 use Rattle.wcsp.specs.Resolve.{nextPair, resolve}
-use Rattle.wcsp.specs.Rebuild.{rebuilt}
+use Rattle.wcsp.specs.Rebuild.{rebuilt, rebuiltOver, tailWeight}
 use Rattle.wcsp.specs.Widening.{trimmed}
 use Rattle.fields.specs.Padding.{padded}
 use Rattle.fields.specs.Front.{headIn, headed, sizeIn, goodSizes}
-use Rattle.fields.specs.Entries.{costOf, entriesFrom}
+use Rattle.fields.specs.Entries.{entriesFrom}
+use Rattle.fields.specs.Forbidden.{hasForbidden}
 use Rattle.fields.specs.Assignment.{isAssignment}
-use Rattle.entries.specs.Entries.{scanWord, scanBinding, scanCost}
+use Rattle.entries.specs.Entries.{scanClosing, scanWord, scanBinding, scanCost, scanForbidden}
 use Rattle.input.specs.Instance.{instanceFault, sizesOf, entriesOf}
 use Rattle.rows.specs.Form.{flatIn, rawsFromIn}
 use Rattle.rows.specs.Raw.{rawAt, weightIn, rowWeighs}
@@ -26,7 +27,8 @@ use Rattle.resolution.specs.Step.{oneStep}
 use Rattle.resolution.specs.Run.{runRows}
 use Rattle.resolution.specs.Calls.{stepCall, runCall}
 use Rattle.resolution.specs.Numbers.{outcomeNumber, outcomeField}
-use Rattle.assignment.specs.Calls.{planCall, tableAssignment}
+use Rattle.assignment.specs.Calls.{planCall, tableAssignment, tableCompletion}
+use Rattle.completion.specs.Calls.{fixedFit, completionCost, completeCall}
 use Rattle.checker.specs.Replay.{replay, namedPair, permittedPair}
 use Rattle.checker.specs.Calls.{checkCall, claimHolds, judged}
 use Rattle.calls.specs.Calls.{afterCall, afterCalls}
@@ -34,7 +36,7 @@ use Rattle.calls.specs.Driver.{driveAll}
 use Rattle.calls.specs.Witness.{Witnesses}
 
 pub witnesses : Witnesses
-unfolding outcomeNumber outcomeField driveAll afterCall afterCalls stepCall runCall planCall checkCall judged claimHolds isAssignment cost matches replay namedPair permittedPair runRows oneStep allowed tableAssignment rebuilt lowest validTableIn rowWeighs validSigns signKinds hasSigns tableRowsIn ownRowsIn trimmed rawsFromIn rowOf weightIn rawAt tableSizes domains tableWordsIn flatIn encodeCall instanceFault scanWord scanBinding scanCost headIn headed sizeIn goodSizes costOf entriesFrom sizesOf entriesOf padded encoded addAll tautology same full capacityIn nextPair permitted conclusions resolve within present complement heavy emptyWeight weightOf has falsifies bucket
+unfolding hasForbidden completeCall fixedFit completionCost tableCompletion rebuiltOver tailWeight scanClosing scanForbidden outcomeNumber outcomeField driveAll afterCall afterCalls stepCall runCall planCall checkCall judged claimHolds isAssignment cost matches replay namedPair permittedPair runRows oneStep allowed tableAssignment rebuilt lowest validTableIn rowWeighs validSigns signKinds hasSigns tableRowsIn ownRowsIn trimmed rawsFromIn rowOf weightIn rawAt tableSizes domains tableWordsIn flatIn encodeCall instanceFault scanWord scanBinding scanCost headIn headed sizeIn goodSizes entriesFrom sizesOf entriesOf padded encoded addAll tautology same full capacityIn nextPair permitted conclusions resolve within present complement heavy emptyWeight weightOf has falsifies bucket
 witnesses =
     record {
       encodes = refl;
@@ -50,4 +52,12 @@ witnesses =
       drivenEnds = refl;
       drivenWords = refl;
       drivenPlan = refl;
+      allowedPlan = refl;
+      allowedFree = refl;
+      firstForbidden = refl;
+      secondForbidden = refl;
+      forbiddenEnds = refl;
+      forbiddenPlan = refl;
+      forbiddenCompleted = refl;
+      forbiddenChecked = refl;
     }

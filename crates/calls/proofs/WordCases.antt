@@ -10,9 +10,9 @@ use Rattle.wcsp.specs.Rebuild.{rebuilt}
 use Rattle.wcsp.specs.Widening.{trimmed}
 use Rattle.fields.specs.Padding.{padded}
 use Rattle.fields.specs.Front.{headIn, headed, sizeIn, goodSizes}
-use Rattle.fields.specs.Entries.{costOf, entriesFrom}
+use Rattle.fields.specs.Entries.{entriesFrom}
 use Rattle.fields.specs.Assignment.{isAssignment}
-use Rattle.entries.specs.Entries.{scanWord, scanBinding, scanCost}
+use Rattle.entries.specs.Entries.{scanClosing, scanWord, scanBinding, scanCost}
 use Rattle.input.specs.Instance.{instanceFault, sizesOf, entriesOf}
 use Rattle.rows.specs.Form.{flatIn, rawsFromIn}
 use Rattle.rows.specs.Raw.{rawAt, weightIn, rowWeighs}
@@ -32,5 +32,5 @@ use Rattle.checker.specs.Calls.{checkCall, claimHolds, judged}
 use Rattle.calls.specs.WordCases.{SmallFieldsOnWords, wordCases, wordsStated, wordsComputed}
 
 pub smallFieldsOnWords : SmallFieldsOnWords
-unfolding wordCases wordsStated wordsComputed runCall planCall checkCall judged claimHolds isAssignment cost matches replay namedPair permittedPair runRows oneStep allowed tableAssignment rebuilt lowest validTableIn rowWeighs validSigns signKinds hasSigns tableRowsIn ownRowsIn trimmed rawsFromIn rowOf weightIn rawAt tableSizes domains tableWordsIn flatIn encodeCall instanceFault scanWord scanBinding scanCost headIn headed sizeIn goodSizes costOf entriesFrom sizesOf entriesOf padded encoded addAll tautology same full capacityIn nextPair permitted conclusions resolve within present complement heavy emptyWeight weightOf has falsifies bucket outcomeNumber outcomeField
+unfolding wordCases wordsStated wordsComputed runCall planCall checkCall judged claimHolds isAssignment cost matches replay namedPair permittedPair runRows oneStep allowed tableAssignment rebuilt lowest validTableIn rowWeighs validSigns signKinds hasSigns tableRowsIn ownRowsIn trimmed rawsFromIn rowOf weightIn rawAt tableSizes domains tableWordsIn flatIn encodeCall instanceFault scanClosing scanWord scanBinding scanCost headIn headed sizeIn goodSizes entriesFrom sizesOf entriesOf padded encoded addAll tautology same full capacityIn nextPair permitted conclusions resolve within present complement heavy emptyWeight weightOf has falsifies bucket outcomeNumber outcomeField
 smallFieldsOnWords = refl

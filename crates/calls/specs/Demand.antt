@@ -1,5 +1,5 @@
--- Demand 3 as one statement: a record whose fields are its sentences, and document 02's of completions, for every accepted instance, every table that takes its
--- encoding and every list of calls.
+-- Demand 3 as one statement: a record whose fields are its sentences, and document 02's of completions and forbidden combinations, for every accepted
+-- instance, every table that takes its encoding and every list of calls.
 use Prim.Native.Nat.{ℕ, _≤_, _<_, min}
 use mathlib.Core.Path.{_≡_}
 use mathlib.Core.Logic.{_⊎_, _↔_}
@@ -13,6 +13,7 @@ use Rattle.wcsp.specs.Entry.{Entry, cost}
 use Rattle.wcsp.specs.Resolve.{Pair, nextPair, resolve}
 use Rattle.wcsp.specs.Rebuild.{rebuilt}
 use Rattle.wcsp.specs.Bound.{rowBound, stepBound}
+use Rattle.fields.specs.Limits.{forbiddenCost}
 use Rattle.input.specs.Instance.{sizesOf, entriesOf}
 use Rattle.table.specs.Layout.{tableWords, capacity}
 use Rattle.table.specs.Meaning.{ownRows}
@@ -25,6 +26,7 @@ use Rattle.assignment.specs.Calls.{planCall}
 use Rattle.checker.specs.Theorems.{Best}
 use Rattle.calls.specs.Calls.{Call, started, afterCalls, Derives}
 use Rattle.calls.specs.LastFixed.{CompletesBest}
+use Rattle.calls.specs.AllForbidden.{ForbidsExactly}
 
 -- how many rows a slice takes over these sizes
 abbrev pub room : List ℕ → List ℕ → ℕ
@@ -83,16 +85,21 @@ pub record Upheld (ds : List ℕ) (es : List Entry) (from : List Row) (t′ ws :
   pub runNumbers : (limit : ℕ) (slice : List ℕ)
       → let k = runNumber (runCall t′ limit slice .answer) in
       (k ≡ 0) ⊎ (k ≡ 12)
-  -- a further plan call: 10 for a short target, 13 while a pair is left, else the rebuilt assignment
+  -- a further plan call: 10 for a short target, 13 while a pair is left, 15 for an empty row as heavy as a forbidden entry, else the rebuilt assignment
   pub planShort : (target : List ℕ) → length target < length ds → planCall t′ target ≡ record { number = 10; target = target }
   pub planEarly : (target : List ℕ) (pr : Pair) → length ds ≤ length target → nextPair ds (ownRows t′) ≡ some pr
       → planCall t′ target ≡ record { number = 13; target = target }
+  pub planForbidden : (target : List ℕ) → length ds ≤ length target → nextPair ds (ownRows t′) ≡ none
+      → forbiddenCost ≤ emptyWeight (length ds) (ownRows t′) → planCall t′ target ≡ record { number = 15; target = target }
   pub planWritten : (target : List ℕ) → length ds ≤ length target → nextPair ds (ownRows t′) ≡ none
+      → emptyWeight (length ds) (ownRows t′) < forbiddenCost
       → planCall t′ target ≡ record { number = 0; target = rebuilt ds (ownRows t′) ++ drop (length ds) target }
-  -- once no pair is left, that assignment has exactly the empty row's weight as cost, which is the least cost
+  -- once no pair is left, the rebuilt assignment has exactly the empty row's weight as cost, which is the least cost
   pub best : nextPair ds (ownRows t′) ≡ none → Best ds es (rebuilt ds (ownRows t′)) (emptyWeight (length ds) (ownRows t′))
   -- and, of document 02, every fixed tail is completed at least cost
   pub completed : CompletesBest ds es t′
+  -- and the empty row is as heavy as a forbidden entry exactly if every assignment has a forbidden combination; else the rebuilt one has none
+  pub forbidden : nextPair ds (ownRows t′) ≡ none → ForbidsExactly ds es t′
 
 -- the table t′ and the derivation ws that calls left of an encoding of inst in t: the slice is as long, and the steps started from the encoding
 abbrev pub UpheldFrom : List ℕ → List ℕ → List ℕ → List ℕ → Type 0

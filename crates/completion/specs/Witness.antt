@@ -8,6 +8,7 @@ use Rattle.fields.specs.Answers.{good}
 use Rattle.fields.specs.Order.{firstOf}
 use Rattle.rows.specs.Raw.{rowWidth, maxWeight}
 use Rattle.table.specs.Layout.{rowsAt, tableWords}
+use Rattle.assignment.specs.Calls.{planCall}
 use Rattle.completion.specs.Calls.{CompleteReturned, notCompleted, completeCall}
 use Rattle.completion.specs.Order.{testsOfComplete}
 
@@ -46,6 +47,9 @@ pub record Completions : Type 0 where
   -- the greatest weight is a good cost, and one more is 11
   pub atGreatest : completeCall heaviest 0 (1 ∷ []) (7 ∷ []) ≡ record { answer = good maxWeight; target = 1 ∷ [] }
   pub aboveGreatest : completeCall heaviest 0 (0 ∷ []) (7 ∷ []) ≡ notCompleted 11 (7 ∷ [])
+  -- nothing fixed where the plan call gives 15: the plan and the empty row's weight all the same
+  pub notPlanned : planCall heaviest (7 ∷ []) ≡ record { number = 15; target = 7 ∷ [] }
+  pub completedYet : completeCall heaviest 1 [] (7 ∷ []) ≡ record { answer = good maxWeight; target = 1 ∷ [] }
   -- 10 before 14: a short target and values that do not fit
   pub shortFirst : completeCall p3Done 3 [] (7 ∷ []) ≡ notCompleted 10 (7 ∷ [])
   -- 14 before 13: each of its conditions, a pair being left

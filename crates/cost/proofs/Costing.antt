@@ -8,13 +8,14 @@ use mathlib.Core.List.{List}
 use lib.ListN.{length, getD, drop, drop-of-length-le, List·getD-eq-default}
 use lib.Seq.{drop-cons}
 use lib.Dec.{eqb}
-use borrow.Author.Tests.{eq-eqb, ne-eqb}
+use borrow.Author.Tests.{eq-eqb}
 use Rattle.words.specs.declared.Word.{Word}
-use Rattle.words.specs.declared.Word.the-variants.{Binding, Cost}
+use Rattle.words.specs.declared.Word.the-variants.{Binding}
 use Rattle.words.specs.Layout.{kindOf}
 use Rattle.words.specs.Meaning.{wordOf}
-use Rattle.words.proofs.Inverse.{binding-kind, cost-kind}
-use Rattle.fields.specs.Entries.{costOf}
+use Rattle.words.proofs.Inverse.{binding-kind}
+use Rattle.fields.specs.Entries.{closesEntry, costOf}
+use Rattle.fields.proofs.Closing.{closes-none}
 use Rattle.cost.specs.Costing.{costIn, matchedAfter, costFrom}
 
 -- ---- one word
@@ -31,25 +32,22 @@ unfolding costIn
 cost-matched m w c f e = rw (f, e)
 
 module _ (p : List ℕ) (m : Bool) (w : ℕ) where
-  pub matched-on : (eqb (kindOf w) 3 ≡ false) × (eqb (kindOf w) 4 ≡ false) → m ≡ matchedAfter p m w
+  pub matched-on : (eqb (kindOf w) 3 ≡ false) × (eqb (kindOf w) 4 ≡ false) × (eqb (kindOf w) 11 ≡ false) → m ≡ matchedAfter p m w
   unfolding matchedAfter
-  matched-on (n, k) = rw (n, k)
+  matched-on (l, h, k) = rw (l, closes-none w (h, k))
 
-  module _ (read : Word) (e : read ≡ wordOf w) where
-    pub matched-anew : (c : ℕ) → read ≡ Cost c → true ≡ matchedAfter p m w
+  pub matched-anew : (eqb (kindOf w) 3 ≡ false) × (closesEntry w ≡ true) → true ≡ matchedAfter p m w
+  unfolding matchedAfter
+  matched-anew (n, k) = rw (n, k)
+
+  module _ (read : Word) (e : read ≡ wordOf w) (v a : ℕ) (g : read ≡ Binding v a) where
+    pub matched-not : m ≡ false → false ≡ matchedAfter p m w
     unfolding matchedAfter
-    matched-anew c g =
-        let k = cost-kind w c (sym e ∙ g) .0 in
-        rw (ne-eqb (kindOf w) 3 (omega arith), eq-eqb (kindOf w) 4 k)
+    matched-not f = let k = binding-kind w v a (sym e ∙ g) .0 in rw (eq-eqb (kindOf w) 3 k, f)
 
-    module _ (v a : ℕ) (g : read ≡ Binding v a) where
-      pub matched-not : m ≡ false → false ≡ matchedAfter p m w
-      unfolding matchedAfter
-      matched-not f = let k = binding-kind w v a (sym e ∙ g) .0 in rw (eq-eqb (kindOf w) 3 k, f)
-
-      pub matched-by : (r : ℕ) → m ≡ true → r ≡ getD p v 0 → eqb r a ≡ matchedAfter p m w
-      unfolding matchedAfter
-      matched-by r f h = let (k, x, y) = binding-kind w v a (sym e ∙ g) in rw (eq-eqb (kindOf w) 3 k, f, h, x, y)
+    pub matched-by : (r : ℕ) → m ≡ true → r ≡ getD p v 0 → eqb r a ≡ matchedAfter p m w
+    unfolding matchedAfter
+    matched-by r f h = let (k, x, y) = binding-kind w v a (sym e ∙ g) in rw (eq-eqb (kindOf w) 3 k, f, h, x, y)
 
 -- ---- the words from i on
 

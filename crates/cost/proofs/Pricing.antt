@@ -6,14 +6,15 @@ use mathlib.Core.Bool.{Bool, true, false, _&&_, cond}
 use mathlib.Core.List.{List, [], _∷_, _++_}
 use lib.ListN.{length, getD, take, drop}
 use lib.Dec.{eqb}
-use borrow.Author.Tests.{eq-eqb, eqb-true}
+use borrow.Author.Tests.{eq-eqb}
 use Rattle.wcsp.specs.Entry.{Binding, matches, cost}
 use Rattle.words.specs.Layout.{kindOf, payloadOf, variableIn, valueIn}
 use Rattle.fields.specs.Limits.{maxVariables, greatestCost}
-use Rattle.fields.specs.Entries.{costOf, entriesFrom}
+use Rattle.fields.specs.Entries.{closesEntry, costOf, entriesFrom}
 use Rattle.fields.specs.Assignment.{isAssignment}
 use Rattle.fields.specs.Answers.{refused, good}
 use Rattle.fields.proofs.Padding.{padded-length}
+use Rattle.fields.proofs.Closing.{binding-closes-none, unclosed-costs-none}
 use Rattle.fields.proofs.Costs.{entries-costs}
 use Rattle.input.specs.declared.Validated.{Validated}
 use Rattle.input.specs.Instance.{instanceFault, sizesOf, entriesOf}
@@ -43,7 +44,7 @@ matches-further p (a ∷ bs) b =
 pub cost-of-words : (p : List ℕ) (bs : List Binding) (ws : List ℕ) → cost (entriesFrom bs ws) p ≡ costFrom p (matches p bs) ws
 unfolding cost entriesFrom costFrom costIn matchedAfter costOf matches
 cost-of-words p bs [] = refl
-cost-of-words p bs (w ∷ ws) = go (eqb (kindOf w) 3) (eqb (kindOf w) 4) refl refl (λ bs. cost-of-words p bs ws)
+cost-of-words p bs (w ∷ ws) = go (eqb (kindOf w) 3) (closesEntry w) refl refl (λ bs. cost-of-words p bs ws)
   where
     b : Binding
     b = record { variable = variableIn w; value = valueIn w }
@@ -51,19 +52,19 @@ cost-of-words p bs (w ∷ ws) = go (eqb (kindOf w) 3) (eqb (kindOf w) 4) refl re
     same : Bool
     same = matches p bs && eqb (getD p (variableIn w) 0) (valueIn w)
 
-    nothing : (m : Bool) → _≡_ {A = ℕ} (cond m 0 0) 0
-    nothing true = refl
-    nothing false = refl
+    -- a word that closes no entry adds nothing
+    nothing : (m : Bool) → closesEntry w ≡ false → cond m (costOf w) 0 ≡ 0
+    nothing true e = unclosed-costs-none w e
+    nothing false e = refl
 
-    go : (x y : Bool) → eqb (kindOf w) 3 ≡ x → eqb (kindOf w) 4 ≡ y
+    go : (x y : Bool) → eqb (kindOf w) 3 ≡ x → closesEntry w ≡ y
         → ((bs : List Binding) → cost (entriesFrom bs ws) p ≡ costFrom p (matches p bs) ws)
-        → cost (cond x (entriesFrom (bs ++ (b ∷ [])) ws) (cond y (record { bindings = bs; cost = payloadOf w } ∷ entriesFrom [] ws) (entriesFrom bs ws))) p
-        ≡ cond (matches p bs) (cond y (payloadOf w) 0) 0 + costFrom p (cond x same (cond y true (matches p bs))) ws
-    go true true f g ih = absurd (omega (arith, eqb-true (kindOf w) 3 f, eqb-true (kindOf w) 4 g))
-    go true false f g ih =
-        omega (arith, ih (bs ++ (b ∷ [])), ap (λ m. costFrom p m ws) (matches-further p bs b), nothing (matches p bs))
-    go false true f g ih = ap (λ n. cond (matches p bs) (payloadOf w) 0 + n) (ih [])
-    go false false f g ih = omega (arith, ih bs, nothing (matches p bs))
+        → cost (cond x (entriesFrom (bs ++ (b ∷ [])) ws) (cond y (record { bindings = bs; cost = costOf w } ∷ entriesFrom [] ws) (entriesFrom bs ws))) p
+        ≡ cond (matches p bs) (costOf w) 0 + costFrom p (cond x same (cond y true (matches p bs))) ws
+    go true y f g ih =
+        omega (arith, ih (bs ++ (b ∷ [])), ap (λ m. costFrom p m ws) (matches-further p bs b), nothing (matches p bs) (binding-closes-none w f))
+    go false true f g ih = ap (λ n. cond (matches p bs) (costOf w) 0 + n) (ih [])
+    go false false f g ih = omega (arith, ih bs, nothing (matches p bs) g)
 
 -- ---- the call
 

@@ -5,7 +5,7 @@ use mathlib.Core.List.{List, [], _∷_}
 use lib.ListN.{getD}
 use lib.Dec.{eqb}
 use Rattle.words.specs.Layout.{kindOf, variableIn, valueIn}
-use Rattle.fields.specs.Entries.{costOf}
+use Rattle.fields.specs.Entries.{closesEntry, costOf}
 
 -- what a word adds to the cost, where the bindings of the open entry are matched or not
 unfoldable pub costIn : Bool → ℕ → ℕ
@@ -15,7 +15,7 @@ costIn m w = cond m (costOf w) 0
 unfoldable pub matchedAfter : List ℕ → Bool → ℕ → Bool
 matchedAfter p m w =
     cond (eqb (kindOf w) 3) (m && eqb (getD p (variableIn w) 0) (valueIn w))
-    (cond (eqb (kindOf w) 4) true m)
+    (cond (closesEntry w) true m)
 
 -- what the words add to the cost of p
 unfoldable pub costFrom : List ℕ → Bool → List ℕ → ℕ

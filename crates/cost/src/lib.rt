@@ -19,7 +19,7 @@ fn value_of(plan: &[u8], v: u32) -> u32
     fields::wide(plan[i])
 }
 
-// What a word adds to the cost: a cost word, if the bindings before it are matched.
+// What a word adds to the cost: what it gives, if the bindings before it are matched.
 fn cost_in(matched: bool, w: u32) -> u64
     ensures { λ r. ⌜ r ≡ costIn matched w ⌝ }
 {
@@ -41,6 +41,7 @@ fn matched_after(plan: &[u8], matched: bool, w: u32) -> bool
             value_of(plan, v) == a
         }
         Word::Cost(_) => true,
+        Word::Forbidden(_) => true,
         _ => matched,
     }
 }

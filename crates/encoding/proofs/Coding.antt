@@ -11,7 +11,7 @@ use borrow.Author.Tests.{eqb-true}
 use Rattle.wcsp.specs.Clause.{same}
 use Rattle.wcsp.specs.Row.{Row, merge}
 use Rattle.words.specs.Layout.{kindOf, variableIn, valueIn}
-use Rattle.fields.specs.Entries.{costOf}
+use Rattle.fields.specs.Entries.{closesEntry, costOf}
 use Rattle.table.specs.Valid.{hasSigns}
 use Rattle.table.proofs.Twelve.{Twelve}
 use Rattle.encoding.specs.Coding.{positives, costsIn, signsAfter, grown, Coded, nothingCoded, codedAfter, codedBy, codedTo, rowsTo}
@@ -149,7 +149,7 @@ twelve-zeros = record { long = refl; small = λ v. small-zeros 12 v }
 
 twelve-after : (fs s : List ℕ) (w : ℕ) → Twelve fs → Twelve s → Twelve (signsAfter fs s w)
 unfolding signsAfter
-twelve-after fs s w f t = go (eqb (kindOf w) 3) (eqb (kindOf w) 4)
+twelve-after fs s w f t = go (eqb (kindOf w) 3) (closesEntry w)
   where
     sign : ℕ
     sign = getD fs (variableIn w) 0 - 2 ^ valueIn w

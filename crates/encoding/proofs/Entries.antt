@@ -3,14 +3,14 @@
 use Prim.Native.Nat.{ℕ, _+_, _-_, _^_, _<_}
 use native.Mathlib.Omega.{arith}
 use mathlib.Core.Path.{_≡_, refl, sym, ap, ap₂, _∙_}
-use mathlib.Core.Bool.{Bool, true, false, cond}
+use mathlib.Core.Bool.{Bool, true, false, cond, false≢true}
 use mathlib.Core.Logic.{_≢_}
 use mathlib.Core.List.{List, [], _∷_, _++_, map}
 use lib.ListN.{length, getD, set, replicate}
 use lib.Seq.{set-comm}
 use lib.Pow.{pow-pos}
 use lib.Dec.{eqb}
-use borrow.Author.Tests.{eqb-true, ne-eqb}
+use borrow.Author.Tests.{ne-eqb}
 use Rattle.wcsp.specs.Sign.{full}
 use Rattle.wcsp.specs.Clause.{nil, cons, ValidClause, AllPositive, nilPositive, consPositive, tautology}
 use Rattle.wcsp.specs.Row.{Row, add}
@@ -18,8 +18,9 @@ use Rattle.wcsp.specs.Entry.{Binding, Entry, Rising, nilRising, consRising, Wel
 use Rattle.wcsp.proofs.Signs.{full-at}
 use Rattle.wcsp.proofs.Encoding.{along-set}
 use Rattle.wcsp.proofs.Rebuilding.{full-positive}
-use Rattle.words.specs.Layout.{kindOf, payloadOf, variableIn, valueIn}
-use Rattle.fields.specs.Entries.{costOf, entriesFrom}
+use Rattle.words.specs.Layout.{kindOf, variableIn, valueIn}
+use Rattle.fields.specs.Entries.{closesEntry, costOf, entriesFrom}
+use Rattle.fields.proofs.Closing.{binding-closes-none, unclosed-costs-none}
 use Rattle.encoding.specs.Coding.{costsIn, signsAfter, grown, codedAfter, codedBy}
 
 -- ---- the signs of an open entry
@@ -77,8 +78,9 @@ valid-plain (cons {a = d} {b = S} h t) = rw (ne-eqb S (full d) (λ (e : S ≡ fu
 
 -- ---- words and entries
 
-both-kinds : (w : ℕ) → eqb (kindOf w) 3 ≡ true → eqb (kindOf w) 4 ≡ true → ⊥
-both-kinds w e f = omega (arith, eqb-true (kindOf w) 3 e, eqb-true (kindOf w) 4 f)
+-- a binding closes no entry
+both-kinds : (w : ℕ) → eqb (kindOf w) 3 ≡ true → closesEntry w ≡ true → ⊥
+both-kinds w e f = false≢true (sym (binding-closes-none w e) ∙ f)
 
 module _ (ds es : List ℕ) (long : length es ≡ 12) (a : AllPositive es) (f : (v : ℕ) → v < length ds → getD es v 0 ≡ getD ds v 0) where
   signs-clause : {k : ℕ} {bs : List Binding} → Rising ds k bs → setsFrom (map full es) (replicate 12 0) bs ≡ clauseOf es bs
@@ -91,9 +93,9 @@ module _ (ds es : List ℕ) (long : length es ≡ 12) (a : AllPositive es) (f : 
 
   coded-entries : (bs : List Binding) (rs : List Row) (ws : List ℕ) → WellFormed ds (entriesFrom bs ws)
       → codedBy (map full es) (record { signs = setsFrom (map full es) (replicate 12 0) bs; rows = rs }) ws .rows ≡ encodeOnto es rs (entriesFrom bs ws)
-  unfolding codedBy codedAfter signsAfter grown costOf entriesFrom encodeOnto setsFrom
+  unfolding codedBy codedAfter signsAfter grown entriesFrom encodeOnto setsFrom
   coded-entries bs rs [] g = refl
-  coded-entries bs rs (w ∷ ws) g = go (eqb (kindOf w) 3) (eqb (kindOf w) 4) refl refl (λ bs rs. coded-entries bs rs ws) g
+  coded-entries bs rs (w ∷ ws) g = go (eqb (kindOf w) 3) (closesEntry w) refl refl (λ bs rs. coded-entries bs rs ws) g
     where
       fs : List ℕ
       fs = map full es
@@ -104,25 +106,26 @@ module _ (ds es : List ℕ) (long : length es ≡ 12) (a : AllPositive es) (f : 
       b : Binding
       b = record { variable = variableIn w; value = valueIn w }
 
-      go : (x y : Bool) → eqb (kindOf w) 3 ≡ x → eqb (kindOf w) 4 ≡ y
+      go : (x y : Bool) → eqb (kindOf w) 3 ≡ x → closesEntry w ≡ y
           → ((bs : List Binding) (rs : List Row) → WellFormed ds (entriesFrom bs ws)
           → codedBy fs (record { signs = setsFrom fs (replicate 12 0) bs; rows = rs }) ws .rows ≡ encodeOnto es rs (entriesFrom bs ws))
           → WellFormed ds
-          (cond x (entriesFrom (bs ++ (b ∷ [])) ws) (cond y (record { bindings = bs; cost = payloadOf w } ∷ entriesFrom [] ws) (entriesFrom bs ws)))
+          (cond x (entriesFrom (bs ++ (b ∷ [])) ws) (cond y (record { bindings = bs; cost = costOf w } ∷ entriesFrom [] ws) (entriesFrom bs ws)))
           → codedBy fs
           (record {
             signs = cond x (set s (variableIn w) (getD fs (variableIn w) 0 - 2 ^ valueIn w)) (cond y (replicate 12 0) s);
-            rows = grown (cond y (payloadOf w) 0) s rs;
+            rows = grown (costOf w) s rs;
           })
           ws .rows
           ≡ encodeOnto es rs
-          (cond x (entriesFrom (bs ++ (b ∷ [])) ws) (cond y (record { bindings = bs; cost = payloadOf w } ∷ entriesFrom [] ws) (entriesFrom bs ws)))
+          (cond x (entriesFrom (bs ++ (b ∷ [])) ws) (cond y (record { bindings = bs; cost = costOf w } ∷ entriesFrom [] ws) (entriesFrom bs ws)))
       go true true e f ih g = absurd (both-kinds w e f)
       go true false e f ih g =
-          ap (λ s. codedBy fs (record { signs = s; rows = rs }) ws .rows) (sym (sets-more fs (replicate 12 0) bs b)) ∙ ih (bs ++ (b ∷ [])) rs g
+          rw (unclosed-costs-none w f)
+          (ap (λ s. codedBy fs (record { signs = s; rows = rs }) ws .rows) (sym (sets-more fs (replicate 12 0) bs b)) ∙ ih (bs ++ (b ∷ [])) rs g)
       go false true e f ih (consEntries r g) =
-          ih [] (grown (payloadOf w) s rs) g ∙ ap (λ q. encodeOnto es q (entriesFrom [] ws)) (grown-add (payloadOf w) rs r)
-      go false false e f ih g = ih bs rs g
+          ih [] (grown (costOf w) s rs) g ∙ ap (λ q. encodeOnto es q (entriesFrom [] ws)) (grown-add (costOf w) rs r)
+      go false false e f ih g = rw (unclosed-costs-none w f) (ih bs rs g)
 
   pub coded-encoded : (ws : List ℕ) → WellFormed ds (entriesFrom [] ws)
       → codedBy (map full es) (record { signs = replicate 12 0; rows = [] }) ws .rows ≡ encodeOnto es [] (entriesFrom [] ws)
@@ -137,17 +140,17 @@ total [] = 0
 total (e ∷ es) = e .cost + total es
 
 pub costs-total : (bs : List Binding) (ws : List ℕ) → costsIn ws ≡ total (entriesFrom bs ws)
-unfolding costsIn total entriesFrom costOf
+unfolding costsIn total entriesFrom
 costs-total bs [] = refl
-costs-total bs (w ∷ ws) = go (eqb (kindOf w) 3) (eqb (kindOf w) 4) refl refl (λ bs. costs-total bs ws)
+costs-total bs (w ∷ ws) = go (eqb (kindOf w) 3) (closesEntry w) refl refl (λ bs. costs-total bs ws)
   where
     b : Binding
     b = record { variable = variableIn w; value = valueIn w }
 
-    go : (x y : Bool) → eqb (kindOf w) 3 ≡ x → eqb (kindOf w) 4 ≡ y → ((bs : List Binding) → costsIn ws ≡ total (entriesFrom bs ws))
-        → cond y (payloadOf w) 0 + costsIn ws
-        ≡ total (cond x (entriesFrom (bs ++ (b ∷ [])) ws) (cond y (record { bindings = bs; cost = payloadOf w } ∷ entriesFrom [] ws) (entriesFrom bs ws)))
+    go : (x y : Bool) → eqb (kindOf w) 3 ≡ x → closesEntry w ≡ y → ((bs : List Binding) → costsIn ws ≡ total (entriesFrom bs ws))
+        → costOf w + costsIn ws
+        ≡ total (cond x (entriesFrom (bs ++ (b ∷ [])) ws) (cond y (record { bindings = bs; cost = costOf w } ∷ entriesFrom [] ws) (entriesFrom bs ws)))
     go true true e f ih = absurd (both-kinds w e f)
-    go true false e f ih = omega (arith, ih (bs ++ (b ∷ [])))
+    go true false e f ih = omega (arith, ih (bs ++ (b ∷ [])), unclosed-costs-none w f)
     go false true e f ih = omega (arith, ih [])
-    go false false e f ih = omega (arith, ih bs)
+    go false false e f ih = omega (arith, ih bs, unclosed-costs-none w f)

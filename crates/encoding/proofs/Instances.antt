@@ -3,6 +3,7 @@ use Prim.Native.Nat.{ℕ, zero, suc, _+_, _-_, _*_, _^_, _<_, _≤_}
 use native.Mathlib.Nat.{le-of-suc-le-suc}
 use native.Mathlib.Omega.{arith}
 use mathlib.Core.Path.{_≡_, refl, sym, ap, _∙_}
+use mathlib.Core.Logic.{_⊎_}
 use mathlib.Core.Bool.{Bool, true, false, _&&_, cond}
 use mathlib.Core.List.{List, [], _∷_, map}
 use lib.ListN.{length, getD, drop, replicate, length-drop, List·getD-append, List·getD-eq-default}
@@ -14,15 +15,17 @@ use Rattle.wcsp.specs.Entry.{Entry, encoded}
 use Rattle.wcsp.specs.Widening.{wideRows}
 use Rattle.wcsp.proofs.Signs.{full-at, single-le-full}
 use Rattle.wcsp.proofs.WideningTables.{wideEncoded}
-use Rattle.words.specs.Layout.{kindOf, payloadOf, variableIn, valueIn}
-use Rattle.fields.specs.Limits.{maxCost, maxEntries}
+use Rattle.words.specs.Layout.{kindOf, variableIn, valueIn}
+use Rattle.fields.specs.Limits.{maxCost, forbiddenCost}
 use Rattle.fields.specs.Front.{goodSizes}
 use Rattle.fields.specs.Entries.{Each, EachSize, nilEach, consEach, entriesFrom}
 use Rattle.fields.specs.Padding.{padded, lacking}
 use Rattle.fields.proofs.Fronts.{good-long}
 use Rattle.fields.proofs.Sizes.{each-positive}
+use Rattle.fields.proofs.Costs.{priced-bounded}
 use Rattle.fields.proofs.Padding.{padded-length, sizes-at, sizes-padded}
-use Rattle.entries.specs.Entries.{goes, stops, scanBinding, scanCost, scanWord, resume, entriesFault}
+use Rattle.entries.specs.Entries.{Scanned, goes, stops, scanBinding, scanWord, resume, entriesFault}
+use Rattle.entries.proofs.Scanning.{word-stops}
 use Rattle.input.specs.Instance.{instanceFault, sizesOf, entriesOf}
 use Rattle.input.proofs.Validating.{headed-bounds, sizes-number, entries-are, instance-apart}
 use Rattle.input.proofs.Acceptance.{instance-headed, faultlessIsAccepted, passed}
@@ -39,20 +42,12 @@ stopped k e = omega arith
 
 -- behind a word without a fault the rest has none
 rest-fault : (ds : List ℕ) (from count : ℕ) (R : ℕ → ℕ → ℕ) (w : ℕ) → resume R (scanWord ds from count w) ≡ 0 → (f : ℕ) × (c : ℕ) × (R f c ≡ 0)
-unfolding scanWord scanBinding scanCost resume
-rest-fault ds from count R w e =
-    go (eqb (kindOf w) 3) (eqb (kindOf w) 4) (leb from (variableIn w) && ltb (valueIn w) (getD ds (variableIn w) 0)) (ltb maxCost (payloadOf w)) (leb maxEntries count) e
+unfolding resume
+rest-fault ds from count R w e = go (scanWord ds from count w) refl e
   where
-    go : (x y a b d : Bool)
-        → resume R
-        (cond x (cond a (goes (suc (variableIn w)) count) (stops 3))
-        (cond y (cond b (stops 4) (cond d (stops 5) (goes 0 (suc count)))) (stops 3))) ≡ 0 → (f : ℕ) × (c : ℕ) × (R f c ≡ 0)
-    go true y true b d e = (suc (variableIn w), count, e)
-    go true y false b d e = absurd (stopped 2 e)
-    go false true a true d e = absurd (stopped 3 e)
-    go false true a false true e = absurd (stopped 4 e)
-    go false true a false false e = (0, suc count, e)
-    go false false a b d e = absurd (stopped 2 e)
+    go : (x : Scanned) → scanWord ds from count w ≡ x → resume R x ≡ 0 → (f : ℕ) × (c : ℕ) × (R f c ≡ 0)
+    go (goes f c) q e = (f, c, e)
+    go (stops k) q e = absurd (omega (arith, word-stops ds from count k w (sym q)))
 
 binding-known : (ds : List ℕ) (from count v a : ℕ) (R : ℕ → ℕ → ℕ) → resume R (scanBinding ds from count v a) ≡ 0 → a < getD ds v 0
 unfolding scanBinding resume
@@ -96,10 +91,10 @@ proper-at ds l s v a h =
 
 -- ---- costs
 
-total-bounded : (es : List Entry) → Each (λ e. e .cost ≤ maxCost) es → total es ≤ maxCost * length es
+total-bounded : (es : List Entry) → Each (λ e. (e .cost ≤ maxCost) ⊎ (e .cost ≡ forbiddenCost)) es → total es ≤ forbiddenCost * length es
 unfolding total
 total-bounded [] nilEach = omega arith
-total-bounded (e ∷ es) (consEach h r) = omega (arith, total-bounded es r)
+total-bounded (e ∷ es) (consEach h r) = omega (arith, total-bounded es r, priced-bounded (e .cost) h)
 
 -- ---- the instance
 

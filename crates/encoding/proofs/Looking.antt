@@ -12,12 +12,13 @@ use lib.Pow.{pow-mono}
 use borrow.Author.Tests.{eq-eqb, ne-eqb, le-leb}
 use Rattle.wcsp.specs.Clause.{same}
 use Rattle.words.specs.declared.Word.{Word}
-use Rattle.words.specs.declared.Word.the-variants.{Binding, Cost}
+use Rattle.words.specs.declared.Word.the-variants.{Binding}
 use Rattle.words.specs.Layout.{kindOf}
 use Rattle.words.specs.Meaning.{wordOf}
-use Rattle.words.proofs.Inverse.{binding-kind, cost-kind}
+use Rattle.words.proofs.Inverse.{binding-kind}
 use Rattle.fields.specs.Limits.{maxVariables, maxValues}
-use Rattle.fields.specs.Entries.{costOf}
+use Rattle.fields.specs.Entries.{closesEntry, costOf}
+use Rattle.fields.proofs.Closing.{closes-none}
 use Rattle.clause.specs.declared.Clause.{Clause}
 use Rattle.clause.specs.Packed.{signsOf, FitsBlocks, Holds}
 use Rattle.table.specs.Valid.{hasSigns}
@@ -42,17 +43,14 @@ module _ (x r : Clause) (fs : List ℕ) (w : ℕ) where
       let (k, q, u) = binding-kind w v a e in
       rw (eq-eqb (kindOf w) 3 k, q, u, ← f, ← g) h
 
-  pub cost-signs : (c : ℕ) → wordOf w ≡ Cost c → Holds r (replicate 12 0) → Holds r (signsAfter fs (signsOf x) w)
+  pub closing-signs : (eqb (kindOf w) 3 ≡ false) × (closesEntry w ≡ true) → Holds r (replicate 12 0) → Holds r (signsAfter fs (signsOf x) w)
   unfolding signsAfter
-  cost-signs c e h =
-      let (k, q) = cost-kind w c e in
-      let n : kindOf w ≡ 3 → ⊥ = λ (z : kindOf w ≡ 3). omega arith in
-      rw (ne-eqb (kindOf w) 3 n, eq-eqb (kindOf w) 4 k) h
+  closing-signs (a, b) h = rw (a, b) h
 
-pub other-signs : (x : Clause) (fs : List ℕ) (w : ℕ) → FitsBlocks x → (eqb (kindOf w) 3 ≡ false) × (eqb (kindOf w) 4 ≡ false)
+pub other-signs : (x : Clause) (fs : List ℕ) (w : ℕ) → FitsBlocks x → (eqb (kindOf w) 3 ≡ false) × (eqb (kindOf w) 4 ≡ false) × (eqb (kindOf w) 11 ≡ false)
     → Holds x (signsAfter fs (signsOf x) w)
 unfolding signsAfter
-other-signs x fs w p (a, b) = rw (a, b) (record { packed = p; signsAre = refl })
+other-signs x fs w p (a, b, c) = rw (a, closes-none w (b, c)) (record { packed = p; signsAre = refl })
 
 module _ (w k : ℕ) (s : Bool) (e : k ≡ costOf w) where
   pub adds-none : k ≡ 0 → false ≡ (not (eqb (costOf w) 0) && s)

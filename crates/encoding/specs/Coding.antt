@@ -8,7 +8,7 @@ use lib.Dec.{eqb}
 use Rattle.wcsp.specs.Row.{Row, merge}
 use Rattle.words.specs.Layout.{kindOf, variableIn, valueIn}
 use Rattle.fields.specs.Limits.{maxVariables, maxValues}
-use Rattle.fields.specs.Entries.{costOf}
+use Rattle.fields.specs.Entries.{closesEntry, costOf}
 use Rattle.rows.specs.Raw.{Laid, rowWidth, maxWeight}
 
 -- ---- the words
@@ -32,11 +32,11 @@ costsIn (w ∷ ws) = costOf w + costsIn ws
 
 -- ---- signs and rows
 
--- the signs of the open entry behind a word: at a bound variable all values but the named one; a cost word ends the entry
+-- the signs of the open entry behind a word: at a bound variable all values but the named one; none where a word closes the entry
 unfoldable pub signsAfter : List ℕ → List ℕ → ℕ → List ℕ
 signsAfter fs s w =
     cond (eqb (kindOf w) 3) (set s (variableIn w) (getD fs (variableIn w) 0 - 2 ^ valueIn w))
-    (cond (eqb (kindOf w) 4) (replicate 12 0) s)
+    (cond (closesEntry w) (replicate 12 0) s)
 
 -- the rows with a clause of this cost; cost 0 adds nothing
 unfoldable pub grown : ℕ → List ℕ → List Row → List Row

@@ -34,7 +34,7 @@ fn full_signs(sizes: &[u8; 12]) -> Clause
     fulls
 }
 
-// The signs of the open entry behind a word: a binding leaves the named value out, a cost word ends the entry.
+// The signs of the open entry behind a word: a binding leaves the named value out, a cost or a forbidden word closes the entry.
 fn signs_after(pending: Clause, w: u32, fulls: Clause) -> Clause
     requires { ⌜ FitsBlocks pending × FitsBlocks fulls × Proper (signsOf fulls) w ⌝ }
     ensures { λ r. ⌜ Holds r (signsAfter (signsOf fulls) (signsOf pending) w) ⌝ }
@@ -47,6 +47,7 @@ fn signs_after(pending: Clause, w: u32, fulls: Clause) -> Clause
             pending.replaced(v, sign)
         }
         Word::Cost(_) => Clause::empty(),
+        Word::Forbidden(_) => Clause::empty(),
         _ => pending,
     }
 }

@@ -1,17 +1,18 @@
--- Entries' words without a fault: the entries that they mean are well formed, few enough and of costs within the limit. The bindings of the open entry rise up to the variable that the scan has come to.
+-- Entries' words without a fault: the entries that they mean are well formed, few enough and each of a cost within the limit or forbidden. The bindings of the open entry rise up to the variable that the scan has come to.
 use Prim.Native.Nat.{ℕ, suc, _≤_, _<_}
 use native.Mathlib.Omega.{arith}
 use mathlib.Core.Path.{_≡_, refl}
-use mathlib.Core.Bool.{Bool, true, false, _&&_, cond}
+use mathlib.Core.Logic.{_⊎_, inl, inr}
+use mathlib.Core.Bool.{Bool, true, false, _&&_, _||_, cond}
 use mathlib.Core.List.{List, [], _∷_, _++_}
 use lib.ListN.{length, getD}
 use lib.Dec.{eqb, leb, ltb}
 use borrow.Author.Tests.{leb-true, leb-false, ltb-true, ltb-false}
 use Rattle.wcsp.specs.Entry.{Binding, Rising, nilRising, consRising, nilEntries, consEntries}
 use Rattle.words.specs.Layout.{kindOf, payloadOf, variableIn, valueIn}
-use Rattle.fields.specs.Limits.{maxCost, maxEntries}
+use Rattle.fields.specs.Limits.{maxCost, maxEntries, forbiddenCost}
 use Rattle.fields.specs.Entries.{entriesFrom, nilEach, consEach, Entries}
-use Rattle.entries.specs.Entries.{goes, stops, scanBinding, scanCost, scanWord, resume, entriesFault}
+use Rattle.entries.specs.Entries.{goes, stops, scanBinding, scanClosing, scanCost, scanForbidden, scanWord, resume, entriesFault}
 use Rattle.entries.proofs.Scanning.{known}
 
 -- ---- the bindings of an open entry
@@ -58,39 +59,64 @@ module _ (ds : List ℕ) where
       go true false f g e = absurd (omega arith)
       go false y f g e = absurd (omega arith)
 
-  cost-kept : (count c : ℕ) (ws : List ℕ) (from : ℕ) (bs : List Binding) → Rest 0 (suc count) ws → Rises ds 0 bs from
-      → resume (λ f k. entriesFault ds f k ws) (scanCost count c) ≡ 0 → Entries ds count (record { bindings = bs; cost = c } ∷ entriesFrom [] ws)
-  unfolding Rest resume scanCost
-  cost-kept count c ws from bs ih r e = go (ltb maxCost c) (leb maxEntries count) refl refl e
+  -- a good word that closes an entry of cost c, at most the limit or that of a forbidden one
+  closing-kept : (count c : ℕ) (ws : List ℕ) (from : ℕ) (bs : List Binding) → Rest 0 (suc count) ws → Rises ds 0 bs from
+      → (c ≤ maxCost) ⊎ (c ≡ forbiddenCost)
+      → resume (λ f k. entriesFault ds f k ws) (scanClosing count) ≡ 0 → Entries ds count (record { bindings = bs; cost = c } ∷ entriesFrom [] ws)
+  unfolding Rest resume scanClosing
+  closing-kept count c ws from bs ih r h e = go (leb maxEntries count) refl e
     where
-      go : (x y : Bool) → ltb maxCost c ≡ x → leb maxEntries count ≡ y
-          → resume (λ f k. entriesFault ds f k ws) (cond x (stops 4) (cond y (stops 5) (goes 0 (suc count)))) ≡ 0
+      go : (x : Bool) → leb maxEntries count ≡ x → resume (λ f k. entriesFault ds f k ws) (cond x (stops 5) (goes 0 (suc count))) ≡ 0
           → Entries ds count (record { bindings = bs; cost = c } ∷ entriesFrom [] ws)
-      go true y f g e = absurd (omega arith)
-      go false true f g e = absurd (omega arith)
-      go false false f g e =
-          let rest = ih [] (leb-false maxEntries count g) none e in
+      go true f e = absurd (omega arith)
+      go false f e =
+          let rest = ih [] (leb-false maxEntries count f) none e in
           let n = rest .number in
           record {
             wellFormed = consEntries (rising r) (rest .wellFormed);
             number = omega arith;
-            costs = consEach (ltb-false maxCost c f) (rest .costs);
+            costs = consEach h (rest .costs);
           }
+
+  cost-kept : (count c : ℕ) (ws : List ℕ) (from : ℕ) (bs : List Binding) → Rest 0 (suc count) ws → Rises ds 0 bs from
+      → resume (λ f k. entriesFault ds f k ws) (scanCost count c) ≡ 0 → Entries ds count (record { bindings = bs; cost = c } ∷ entriesFrom [] ws)
+  unfolding resume scanCost
+  cost-kept count c ws from bs ih r e = go (ltb maxCost c) refl e
+    where
+      go : (x : Bool) → ltb maxCost c ≡ x → resume (λ f k. entriesFault ds f k ws) (cond x (stops 4) (scanClosing count)) ≡ 0
+          → Entries ds count (record { bindings = bs; cost = c } ∷ entriesFrom [] ws)
+      go true f e = absurd (omega arith)
+      go false f e = closing-kept count c ws from bs ih r (inl (ltb-false maxCost c f)) e
+
+  forbidden-kept : (count p : ℕ) (ws : List ℕ) (from : ℕ) (bs : List Binding) → Rest 0 (suc count) ws → Rises ds 0 bs from
+      → resume (λ f k. entriesFault ds f k ws) (scanForbidden count p) ≡ 0
+      → Entries ds count (record { bindings = bs; cost = forbiddenCost } ∷ entriesFrom [] ws)
+  unfolding resume scanForbidden
+  forbidden-kept count p ws from bs ih r e = go (eqb p 0) e
+    where
+      go : (x : Bool) → resume (λ f k. entriesFault ds f k ws) (cond x (scanClosing count) (stops 3)) ≡ 0
+          → Entries ds count (record { bindings = bs; cost = forbiddenCost } ∷ entriesFrom [] ws)
+      go true e = closing-kept count forbiddenCost ws from bs ih r (inr refl) e
+      go false e = absurd (stopped e)
 
   entries-good : (ws : List ℕ) (from count : ℕ) → Rest from count ws
   unfolding Rest entriesFault entriesFrom scanWord resume
   entries-good [] from count bs l r e = record { wellFormed = nilEntries; number = omega arith; costs = nilEach }
-  entries-good (w ∷ ws) from count bs l r e = go (eqb (kindOf w) 3) (eqb (kindOf w) 4) (λ f c. entries-good ws f c) e
+  entries-good (w ∷ ws) from count bs l r e = go (eqb (kindOf w) 3) (eqb (kindOf w) 4) (eqb (kindOf w) 11) (λ f c. entries-good ws f c) e
     where
       b : Binding
       b = record { variable = variableIn w; value = valueIn w }
 
-      go : (x y : Bool) → ((f c : ℕ) → Rest f c ws)
-          → resume (λ f c. entriesFault ds f c ws) (cond x (scanBinding ds from count (variableIn w) (valueIn w)) (cond y (scanCost count (payloadOf w)) (stops 3))) ≡ 0
-          → Entries ds count (cond x (entriesFrom (bs ++ (b ∷ [])) ws) (cond y (record { bindings = bs; cost = payloadOf w } ∷ entriesFrom [] ws) (entriesFrom bs ws)))
-      go true y ih e = binding-kept from count (variableIn w) (valueIn w) ws bs (ih (suc (variableIn w)) count) l r e
-      go false true ih e = cost-kept count (payloadOf w) ws from bs (ih 0 (suc count)) r e
-      go false false ih e = absurd (stopped e)
+      go : (x y z : Bool) → ((f c : ℕ) → Rest f c ws)
+          → resume (λ f c. entriesFault ds f c ws)
+          (cond x (scanBinding ds from count (variableIn w) (valueIn w)) (cond y (scanCost count (payloadOf w)) (cond z (scanForbidden count (payloadOf w)) (stops 3)))) ≡ 0
+          → Entries ds count
+          (cond x (entriesFrom (bs ++ (b ∷ [])) ws)
+          (cond (y || z) (record { bindings = bs; cost = cond y (payloadOf w) (cond z forbiddenCost 0) } ∷ entriesFrom [] ws) (entriesFrom bs ws)))
+      go true y z ih e = binding-kept from count (variableIn w) (valueIn w) ws bs (ih (suc (variableIn w)) count) l r e
+      go false true z ih e = cost-kept count (payloadOf w) ws from bs (ih 0 (suc count)) r e
+      go false false true ih e = forbidden-kept count (payloadOf w) ws from bs (ih 0 (suc count)) r e
+      go false false false ih e = absurd (stopped e)
 
 -- from the start
 pub entries-accepted : (ds : List ℕ) (before : ℕ) (ws : List ℕ) → before ≤ maxEntries → entriesFault ds 0 before ws ≡ 0

@@ -7,7 +7,7 @@ use lib.ListN.{getD}
 use lib.Dec.{eqb, leb, ltb}
 use Rattle.words.specs.Layout.{kindOf, payloadOf, variableIn, valueIn}
 use Rattle.fields.specs.Limits.{maxCost, maxEntries}
-use Rattle.entries.specs.Entries.{Scanned, goes, stops, scanBinding, scanCost, scanWord, resume, entriesFault}
+use Rattle.entries.specs.Entries.{Scanned, goes, stops, scanBinding, scanClosing, scanCost, scanForbidden, scanWord, resume, entriesFault}
 
 data ScannedView : Scanned → Type 0 where
   going : {f c : ℕ} → ScannedView (goes f c)
@@ -24,23 +24,40 @@ binding-view sizes from count v a = go (leb from v && ltb a (getD sizes v 0))
     go true = going
     go false = three
 
+closing-view : (count : ℕ) → ScannedView (scanClosing count)
+unfolding scanClosing
+closing-view count = go (leb maxEntries count)
+  where
+    go : (b : Bool) → ScannedView (cond b (stops 5) (goes 0 (suc count)))
+    go true = let h : 5 ≤ 5 = omega arith in stopping h
+    go false = going
+
 cost-view : (count c : ℕ) → ScannedView (scanCost count c)
 unfolding scanCost
-cost-view count c = go (ltb maxCost c) (leb maxEntries count)
+cost-view count c = go (ltb maxCost c)
   where
-    go : (a b : Bool) → ScannedView (cond a (stops 4) (cond b (stops 5) (goes 0 (suc count))))
-    go true b = let h : 4 ≤ 5 = omega arith in stopping h
-    go false true = let h : 5 ≤ 5 = omega arith in stopping h
-    go false false = going
+    go : (b : Bool) → ScannedView (cond b (stops 4) (scanClosing count))
+    go true = let h : 4 ≤ 5 = omega arith in stopping h
+    go false = closing-view count
+
+forbidden-view : (count p : ℕ) → ScannedView (scanForbidden count p)
+unfolding scanForbidden
+forbidden-view count p = go (eqb p 0)
+  where
+    go : (b : Bool) → ScannedView (cond b (scanClosing count) (stops 3))
+    go true = closing-view count
+    go false = three
 
 scan-view : (sizes : List ℕ) (from count w : ℕ) → ScannedView (scanWord sizes from count w)
 unfolding scanWord
-scan-view sizes from count w = go (eqb (kindOf w) 3) (eqb (kindOf w) 4)
+scan-view sizes from count w = go (eqb (kindOf w) 3) (eqb (kindOf w) 4) (eqb (kindOf w) 11)
   where
-    go : (a b : Bool) → ScannedView (cond a (scanBinding sizes from count (variableIn w) (valueIn w)) (cond b (scanCost count (payloadOf w)) (stops 3)))
-    go true b = binding-view sizes from count (variableIn w) (valueIn w)
-    go false true = cost-view count (payloadOf w)
-    go false false = three
+    go : (a b c : Bool)
+        → ScannedView (cond a (scanBinding sizes from count (variableIn w) (valueIn w)) (cond b (scanCost count (payloadOf w)) (cond c (scanForbidden count (payloadOf w)) (stops 3))))
+    go true b c = binding-view sizes from count (variableIn w) (valueIn w)
+    go false true c = cost-view count (payloadOf w)
+    go false false true = forbidden-view count (payloadOf w)
+    go false false false = three
 
 pub entries-small : (sizes : List ℕ) (from count : ℕ) (ws : List ℕ) → entriesFault sizes from count ws ≤ 5
 unfolding entriesFault resume

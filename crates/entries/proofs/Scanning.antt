@@ -3,7 +3,7 @@ use Prim.Native.Nat.{ℕ, suc, _+_, _≤_, _<_}
 use native.Mathlib.Omega.{arith}
 use native.Mathlib.Numerals.{add-one}
 use mathlib.Core.Path.{_≡_, refl, sym, ap, ap₂, _∙_}
-use mathlib.Core.Bool.{Bool, true, false, _&&_, cond}
+use mathlib.Core.Bool.{Bool, true, false, _&&_, _||_, cond}
 use mathlib.Core.List.{List, [], _∷_, _++_}
 use lib.ListN.{length, getD, take, drop, length-take, List·getD-eq-default}
 use lib.Seq.{getD-take}
@@ -13,19 +13,19 @@ use types.Run.{OneOf, miss}
 use borrow.Author.Tests.{eq-eqb, ne-eqb, eqb-true, eqb-false, le-leb, lt-leb, lt-ltb, le-ltb, leb-true, leb-false}
 use Rattle.wcsp.specs.Entry.{Binding as Bound}
 use Rattle.words.specs.declared.Word.{Word}
-use Rattle.words.specs.declared.Word.the-variants.{Binding, Cost}
+use Rattle.words.specs.declared.Word.the-variants.{Binding, Cost, Forbidden}
 use Rattle.words.specs.Layout.{kindOf, payloadOf, variableIn, valueIn}
 use Rattle.words.specs.Meaning.{wordOf}
-use Rattle.words.proofs.Inverse.{binding-kind, cost-kind}
+use Rattle.words.proofs.Inverse.{binding-kind, cost-kind, forbidden-kind}
 use Rattle.fields.specs.Limits.{maxCost, maxEntries}
-use Rattle.fields.specs.Entries.{entriesFrom}
+use Rattle.fields.specs.Entries.{closesEntry, costOf, entriesFrom}
 use Rattle.reader.specs.declared.word.Next.{Next}
 use Rattle.reader.specs.declared.word.Next.the-variants.{End}
 use Rattle.reader.specs.declared.word.Next.the-variants.{Word as Found}
 use Rattle.reader.specs.Next.{nextOf}
 use Rattle.entries.specs.declared.Got.{Got}
 use Rattle.entries.specs.declared.Got.the-variants.{Number, Fault}
-use Rattle.entries.specs.Entries.{Scanned, goes, stops, scanBinding, scanCost, scanWord, resume, entriesFault}
+use Rattle.entries.specs.Entries.{Scanned, goes, stops, scanBinding, scanClosing, scanCost, scanForbidden, scanWord, resume, entriesFault}
 use Rattle.entries.specs.declared.Behind.{Behind}
 use Rattle.entries.specs.declared.Behind.the-variants.{Goes, Ends, Stops}
 use Rattle.entries.proofs.Behind.{the-type}
@@ -66,17 +66,30 @@ module _ (ds : List ℕ) (from count v a : ℕ) where
     unfolding scanBinding stateOf
     binding-good l = rw (le-leb from v h, ← e, lt-ltb a r l, add-one v)
 
+-- a good word that closes an entry, whichever it is
+pub closing-late : (count : ℕ) → maxEntries ≤ count → Stops 5 ≡ stateOf (scanClosing count)
+unfolding scanClosing stateOf
+closing-late count l = rw (le-leb maxEntries count l)
+
+pub closing-good : (count : ℕ) → count < maxEntries → Goes 0 (count + 1) ≡ stateOf (scanClosing count)
+unfolding scanClosing stateOf
+closing-good count l = rw (lt-leb maxEntries count l, add-one count)
+
 pub cost-high : (count c : ℕ) → maxCost < c → Stops 4 ≡ stateOf (scanCost count c)
 unfolding scanCost stateOf
 cost-high count c h = rw (lt-ltb maxCost c h)
 
-pub cost-late : (count c : ℕ) → c ≤ maxCost → maxEntries ≤ count → Stops 5 ≡ stateOf (scanCost count c)
-unfolding scanCost stateOf
-cost-late count c h l = rw (le-ltb maxCost c h, le-leb maxEntries count l)
+pub cost-good : (count c : ℕ) (x : Behind) → c ≤ maxCost → x ≡ stateOf (scanClosing count) → x ≡ stateOf (scanCost count c)
+unfolding scanCost
+cost-good count c x h e = rw (le-ltb maxCost c h) e
 
-pub cost-good : (count c : ℕ) → c ≤ maxCost → count < maxEntries → Goes 0 (count + 1) ≡ stateOf (scanCost count c)
-unfolding scanCost stateOf
-cost-good count c h l = rw (le-ltb maxCost c h, lt-leb maxEntries count l, add-one count)
+pub forbidden-good : (count p : ℕ) (x : Behind) → p ≡ 0 → x ≡ stateOf (scanClosing count) → x ≡ stateOf (scanForbidden count p)
+unfolding scanForbidden
+forbidden-good count p x h e = rw (eq-eqb p 0 h) e
+
+pub forbidden-bad : (count p : ℕ) → 0 < p → Stops 3 ≡ stateOf (scanForbidden count p)
+unfolding scanForbidden stateOf
+forbidden-bad count p h = rw (ne-eqb p 0 (omega arith))
 
 module _ (ds : List ℕ) (from count w : ℕ) (x : Behind) where
   module _ (read : Word) (e : read ≡ wordOf w) where
@@ -90,9 +103,16 @@ module _ (ds : List ℕ) (from count w : ℕ) (x : Behind) where
         let (k, p) = cost-kind w c (sym e ∙ g) in
         rw (ne-eqb (kindOf w) 3 (omega arith), eq-eqb (kindOf w) 4 k, p) f
 
-  pub at-other : (eqb (kindOf w) 3 ≡ false) × (eqb (kindOf w) 4 ≡ false) → x ≡ Stops 3 → x ≡ stateOf (scanWord ds from count w)
+    pub at-forbidden : (p : ℕ) → read ≡ Forbidden p → x ≡ stateOf (scanForbidden count p) → x ≡ stateOf (scanWord ds from count w)
+    unfolding scanWord
+    at-forbidden p g f =
+        let (k, q) = forbidden-kind w p (sym e ∙ g) in
+        rw (ne-eqb (kindOf w) 3 (omega arith), ne-eqb (kindOf w) 4 (omega arith), eq-eqb (kindOf w) 11 k, q) f
+
+  pub at-other : (eqb (kindOf w) 3 ≡ false) × (eqb (kindOf w) 4 ≡ false) × (eqb (kindOf w) 11 ≡ false) → x ≡ Stops 3
+      → x ≡ stateOf (scanWord ds from count w)
   unfolding scanWord stateOf
-  at-other (n, m) f = rw (n, m) f
+  at-other (l, m, n) f = rw (l, m, n) f
 
 -- ---- what follows a word
 
@@ -105,28 +125,46 @@ binding-stops ds from count v a k e = go (leb from v && ltb a (getD ds v 0)) e
     go true e = let z : _≡_ {A = ℕ} 0 1 = cc in absurd (omega arith)
     go false e = let z : k ≡ 3 = cc in omega arith
 
+other-stops : (j k : ℕ) → 0 < j → stops k ≡ stops j → 0 < k
+other-stops j k h e = let z : k ≡ j = cc in omega arith
+
+closing-stops : (count k : ℕ) → stops k ≡ scanClosing count → 0 < k
+unfolding scanClosing
+closing-stops count k e = go (leb maxEntries count) e
+  where
+    go : (b : Bool) → stops k ≡ cond b (stops 5) (goes 0 (suc count)) → 0 < k
+    go true e = other-stops 5 k (omega arith) e
+    go false e = let z : _≡_ {A = ℕ} 0 1 = cc in absurd (omega arith)
+
 cost-stops : (count c k : ℕ) → stops k ≡ scanCost count c → 0 < k
 unfolding scanCost
-cost-stops count c k e = go (ltb maxCost c) (leb maxEntries count) e
+cost-stops count c k e = go (ltb maxCost c) e
   where
-    go : (a b : Bool) → stops k ≡ cond a (stops 4) (cond b (stops 5) (goes 0 (suc count))) → 0 < k
-    go true b e = let z : k ≡ 4 = cc in omega arith
-    go false true e = let z : k ≡ 5 = cc in omega arith
-    go false false e = let z : _≡_ {A = ℕ} 0 1 = cc in absurd (omega arith)
+    go : (b : Bool) → stops k ≡ cond b (stops 4) (scanClosing count) → 0 < k
+    go true e = other-stops 4 k (omega arith) e
+    go false e = closing-stops count k e
 
-other-stops : (k : ℕ) → stops k ≡ stops 3 → 0 < k
-other-stops k e = let z : k ≡ 3 = cc in omega arith
+forbidden-stops : (count p k : ℕ) → stops k ≡ scanForbidden count p → 0 < k
+unfolding scanForbidden
+forbidden-stops count p k e = go (eqb p 0) e
+  where
+    go : (b : Bool) → stops k ≡ cond b (scanClosing count) (stops 3) → 0 < k
+    go true e = closing-stops count k e
+    go false e = other-stops 3 k (omega arith) e
 
-word-stops : (ds : List ℕ) (from count k w : ℕ) → stops k ≡ scanWord ds from count w → 0 < k
+pub word-stops : (ds : List ℕ) (from count k w : ℕ) → stops k ≡ scanWord ds from count w → 0 < k
 unfolding scanWord
-word-stops ds from count k w e = go (eqb (kindOf w) 3) (eqb (kindOf w) 4) e
+word-stops ds from count k w e = go (eqb (kindOf w) 3) (eqb (kindOf w) 4) (eqb (kindOf w) 11) e
   where
-    go : (x y : Bool) → stops k ≡ cond x (scanBinding ds from count (variableIn w) (valueIn w)) (cond y (scanCost count (payloadOf w)) (stops 3)) → 0 < k
-    go true y e = binding-stops ds from count (variableIn w) (valueIn w) k e
-    go false true e = cost-stops count (payloadOf w) k e
-    go false false e = other-stops k e
+    go : (x y z : Bool)
+        → stops k ≡ cond x (scanBinding ds from count (variableIn w) (valueIn w)) (cond y (scanCost count (payloadOf w)) (cond z (scanForbidden count (payloadOf w)) (stops 3)))
+        → 0 < k
+    go true y z e = binding-stops ds from count (variableIn w) (valueIn w) k e
+    go false true z e = cost-stops count (payloadOf w) k e
+    go false false true e = forbidden-stops count (payloadOf w) k e
+    go false false false e = other-stops 3 k (omega arith) e
 
--- a word that lets the scan go on leaves the count, or is a cost word and counts
+-- a word that lets the scan go on leaves the count, or closes an entry and counts
 binding-goes : (ds : List ℕ) (from count v a f c : ℕ) → goes f c ≡ scanBinding ds from count v a → c ≡ count
 unfolding scanBinding
 binding-goes ds from count v a f c e = go (leb from v && ltb a (getD ds v 0)) e
@@ -135,23 +173,38 @@ binding-goes ds from count v a f c e = go (leb from v && ltb a (getD ds v 0)) e
     go true e = cc
     go false e = let z : _≡_ {A = ℕ} 0 1 = cc in absurd (omega arith)
 
-cost-goes : (count x f c : ℕ) → goes f c ≡ scanCost count x → c ≡ suc count
-unfolding scanCost
-cost-goes count x f c e = go (ltb maxCost x) (leb maxEntries count) e
-  where
-    go : (a b : Bool) → goes f c ≡ cond a (stops 4) (cond b (stops 5) (goes 0 (suc count))) → c ≡ suc count
-    go true b e = let z : _≡_ {A = ℕ} 0 1 = cc in absurd (omega arith)
-    go false true e = let z : _≡_ {A = ℕ} 0 1 = cc in absurd (omega arith)
-    go false false e = cc
-
 other-goes : (f c k : ℕ) → goes f c ≡ stops k → ⊥
 other-goes f c k e = let z : _≡_ {A = ℕ} 0 1 = cc in omega arith
+
+closing-goes : (count f c : ℕ) → goes f c ≡ scanClosing count → c ≡ suc count
+unfolding scanClosing
+closing-goes count f c e = go (leb maxEntries count) e
+  where
+    go : (b : Bool) → goes f c ≡ cond b (stops 5) (goes 0 (suc count)) → c ≡ suc count
+    go true e = absurd (other-goes f c 5 e)
+    go false e = cc
+
+cost-goes : (count x f c : ℕ) → goes f c ≡ scanCost count x → c ≡ suc count
+unfolding scanCost
+cost-goes count x f c e = go (ltb maxCost x) e
+  where
+    go : (b : Bool) → goes f c ≡ cond b (stops 4) (scanClosing count) → c ≡ suc count
+    go true e = absurd (other-goes f c 4 e)
+    go false e = closing-goes count f c e
+
+forbidden-goes : (count p f c : ℕ) → goes f c ≡ scanForbidden count p → c ≡ suc count
+unfolding scanForbidden
+forbidden-goes count p f c e = go (eqb p 0) e
+  where
+    go : (b : Bool) → goes f c ≡ cond b (scanClosing count) (stops 3) → c ≡ suc count
+    go true e = closing-goes count f c e
+    go false e = absurd (other-goes f c 3 e)
 
 -- how many entries there are does not hang on the bindings of an open one
 pub count-any : (bs cs : List Bound) (ws : List ℕ) → length (entriesFrom bs ws) ≡ length (entriesFrom cs ws)
 unfolding entriesFrom
 count-any bs cs [] = refl
-count-any bs cs (w ∷ ws) = go (eqb (kindOf w) 3) (eqb (kindOf w) 4) (λ bs cs. count-any bs cs ws)
+count-any bs cs (w ∷ ws) = go (eqb (kindOf w) 3) (closesEntry w) (λ bs cs. count-any bs cs ws)
   where
     bound : List Bound → List Bound
     bound xs = xs ++ (record { variable = variableIn w; value = valueIn w } ∷ [])
@@ -160,7 +213,7 @@ count-any bs cs (w ∷ ws) = go (eqb (kindOf w) 3) (eqb (kindOf w) 4) (λ bs cs.
     found x y xs =
         length
         (cond x (entriesFrom (bound xs) ws)
-        (cond y (record { bindings = xs; cost = payloadOf w } ∷ entriesFrom [] ws) (entriesFrom xs ws)))
+        (cond y (record { bindings = xs; cost = costOf w } ∷ entriesFrom [] ws) (entriesFrom xs ws)))
 
     go : (x y : Bool) → ((bs cs : List Bound) → length (entriesFrom bs ws) ≡ length (entriesFrom cs ws)) → found x y bs ≡ found x y cs
     go true y ih = ih (bound bs) (bound cs)
@@ -170,17 +223,19 @@ count-any bs cs (w ∷ ws) = go (eqb (kindOf w) 3) (eqb (kindOf w) 4) (λ bs cs.
 count-goes : (ds : List ℕ) (from count f c : ℕ) (ws : List ℕ) (w : ℕ) → goes f c ≡ scanWord ds from count w
     → count + length (entriesFrom [] (w ∷ ws)) ≡ c + length (entriesFrom [] ws)
 unfolding entriesFrom scanWord
-count-goes ds from count f c ws w e = go (eqb (kindOf w) 3) (eqb (kindOf w) 4) e
+count-goes ds from count f c ws w e = go (eqb (kindOf w) 3) (eqb (kindOf w) 4) (eqb (kindOf w) 11) e
   where
     b : Bound
     b = record { variable = variableIn w; value = valueIn w }
 
-    go : (x y : Bool) → goes f c ≡ cond x (scanBinding ds from count (variableIn w) (valueIn w)) (cond y (scanCost count (payloadOf w)) (stops 3))
-        → count + length (cond x (entriesFrom (b ∷ []) ws) (cond y (record { bindings = []; cost = payloadOf w } ∷ entriesFrom [] ws) (entriesFrom [] ws)))
+    go : (x y z : Bool)
+        → goes f c ≡ cond x (scanBinding ds from count (variableIn w) (valueIn w)) (cond y (scanCost count (payloadOf w)) (cond z (scanForbidden count (payloadOf w)) (stops 3)))
+        → count + length (cond x (entriesFrom (b ∷ []) ws) (cond (y || z) (record { bindings = []; cost = costOf w } ∷ entriesFrom [] ws) (entriesFrom [] ws)))
         ≡ c + length (entriesFrom [] ws)
-    go true y e = omega (arith, binding-goes ds from count (variableIn w) (valueIn w) f c e, count-any (b ∷ []) [] ws)
-    go false true e = omega (arith, cost-goes count (payloadOf w) f c e)
-    go false false e = absurd (other-goes f c 3 e)
+    go true y z e = omega (arith, binding-goes ds from count (variableIn w) (valueIn w) f c e, count-any (b ∷ []) [] ws)
+    go false true z e = omega (arith, cost-goes count (payloadOf w) f c e)
+    go false false true e = omega (arith, forbidden-goes count (payloadOf w) f c e)
+    go false false false e = absurd (other-goes f c 3 e)
 
 -- the answer for the whole, from the fault and the count
 answer : ℕ → ℕ → Got

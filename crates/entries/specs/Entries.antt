@@ -8,7 +8,7 @@ use Rattle.words.specs.Layout.{kindOf, payloadOf, variableIn, valueIn}
 use Rattle.fields.specs.Limits.{maxCost, maxEntries}
 
 -- what one entry word does to the scan: go on with the lowest variable that may be bound next (0: no entry is open) and the
--- count of cost words, or stop at a fault
+-- count of entries closed, or stop at a fault
 pub data Scanned : Type 0 where
   goes : ℕ → ℕ → Scanned
   stops : ℕ → Scanned
@@ -17,16 +17,25 @@ pub data Scanned : Type 0 where
 unfoldable pub scanBinding : List ℕ → ℕ → ℕ → ℕ → ℕ → Scanned
 scanBinding sizes from count v a = cond (leb from v && ltb a (getD sizes v 0)) (goes (suc v) count) (stops 3)
 
--- a cost word: 4 for the cost, then 5 for the 4,097th
-unfoldable pub scanCost : ℕ → ℕ → Scanned
-scanCost count c = cond (ltb maxCost c) (stops 4) (cond (leb maxEntries count) (stops 5) (goes 0 (suc count)))
+-- a good word that closes an entry: 5 for the 4,097th
+unfoldable pub scanClosing : ℕ → Scanned
+scanClosing count = cond (leb maxEntries count) (stops 5) (goes 0 (suc count))
 
--- a word among the entries: 3 if it is neither a binding nor a cost
+-- a cost word: 4 for the cost, then 5
+unfoldable pub scanCost : ℕ → ℕ → Scanned
+scanCost count c = cond (ltb maxCost c) (stops 4) (scanClosing count)
+
+-- a word that forbids the combination, "payload 0": 3 for a set bit, then 5, since "it counts as a cost word for 5"
+unfoldable pub scanForbidden : ℕ → ℕ → Scanned
+scanForbidden count p = cond (eqb p 0) (scanClosing count) (stops 3)
+
+-- a word among the entries: 3 if it neither binds nor closes an entry
 unfoldable pub scanWord : List ℕ → ℕ → ℕ → ℕ → Scanned
 scanWord sizes from count w =
     cond (eqb (kindOf w) 3) (scanBinding sizes from count (variableIn w) (valueIn w))
     (cond (eqb (kindOf w) 4) (scanCost count (payloadOf w))
-    (stops 3))
+    (cond (eqb (kindOf w) 11) (scanForbidden count (payloadOf w))
+    (stops 3)))
 
 -- what the scan comes to after a word: what follows from its state, or the fault
 unfoldable pub resume : (ℕ → ℕ → ℕ) → Scanned → ℕ

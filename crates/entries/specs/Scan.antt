@@ -47,7 +47,7 @@ gotIn (Goes from count) = Fault 3
 gotIn (Ends count) = Number count
 gotIn (Stops k) = Fault k
 
--- the fault of the entries' words, or the number of cost words with those before
+-- the fault of the entries' words, or the number of entries with those before
 unfoldable pub scanGot : List ℕ → ℕ → ℕ → List ℕ → Got
 unfolding entriesFault entriesFrom
 scanGot sizes from count ws =

@@ -13,7 +13,7 @@ ghost use mathlib.Core.Path.{_≡_};
 ghost use Prim.Native.Nat.{_≤_};
 ghost use lib.ListN.{length, getD, take, drop};
 ghost use Rattle.fields.specs.Limits.{maxVariables};
-ghost use Rattle.entries.specs.Entries.{scanBinding, scanCost, scanWord};
+ghost use Rattle.entries.specs.Entries.{scanBinding, scanClosing, scanCost, scanForbidden, scanWord};
 ghost use Rattle.entries.specs.Scan.{faultIn, stateOf, goesOn, closed, scanOn, gotIn, scanGot, scanFrom};
 
 // A number that was read, or the number of the fault at which reading ends.
@@ -23,7 +23,7 @@ pub enum Got {
 }
 
 // The state of the scan behind an entry word: the lowest variable that may be bound next (0: no entry is open) and the
-// count of cost words; behind the last word that count; or the number of the fault at which reading ends.
+// count of entries closed; behind the last word that count; or the number of the fault at which reading ends.
 pub enum Behind {
     Goes(u32, u32),
     Ends(u32),
@@ -71,16 +71,32 @@ fn scan_binding(
     Behind::Goes(v + 1, count)
 }
 
+// A good word that closes an entry is counted.
+fn count_on(count: u32) -> Behind
+    ensures { λ r. ⌜ r ≡ stateOf (scanClosing count) ⌝ }
+{
+    if MAX_ENTRIES <= count {
+        return Behind::Stops(5);
+    }
+    Behind::Goes(0, count + 1)
+}
+
 fn scan_cost(count: u32, c: u32) -> Behind
     ensures { λ r. ⌜ r ≡ stateOf (scanCost count c) ⌝ }
 {
     if MAX_COST < c {
         return Behind::Stops(4);
     }
-    if MAX_ENTRIES <= count {
-        return Behind::Stops(5);
+    count_on(count)
+}
+
+fn scan_forbidden(count: u32, p: u32) -> Behind
+    ensures { λ r. ⌜ r ≡ stateOf (scanForbidden count p) ⌝ }
+{
+    if p == 0 {
+        return count_on(count);
     }
-    Behind::Goes(0, count + 1)
+    Behind::Stops(3)
 }
 
 fn scan_word(sizes: &[u8; MAX_VARIABLES], n: usize, from: u32, count: u32, w: u32) -> Behind
@@ -91,6 +107,7 @@ fn scan_word(sizes: &[u8; MAX_VARIABLES], n: usize, from: u32, count: u32, w: u3
     match word {
         Word::Binding(v, a) => scan_binding(sizes, n, from, count, v, a),
         Word::Cost(c) => scan_cost(count, c),
+        Word::Forbidden(p) => scan_forbidden(count, p),
         _ => Behind::Stops(3),
     }
 }
@@ -160,7 +177,7 @@ fn scan_through(
     b
 }
 
-// The number of cost words, those before counted, or the fault of the entries from an index on.
+// The number of entries, those before counted, or the fault of the entries from an index on.
 pub fn scan_entries(
     words: &[u32],
     at: usize,

@@ -1,24 +1,31 @@
 -- Entries as words by their kind numbers, and which sizes and entries a field can have.
 use Prim.Native.Nat.{ℕ, _+_, _≤_}
-use mathlib.Core.Bool.{cond}
+use mathlib.Core.Path.{_≡_}
+use mathlib.Core.Logic.{_⊎_}
+use mathlib.Core.Bool.{Bool, _||_, cond}
 use mathlib.Core.List.{List, [], _∷_, _++_}
 use lib.ListN.{length}
 use lib.Dec.{eqb}
 use Rattle.wcsp.specs.Clause.{AllPositive}
 use Rattle.wcsp.specs.Entry.{Binding, Entry, WellFormed, cost}
 use Rattle.words.specs.Layout.{kindOf, payloadOf, variableIn, valueIn}
-use Rattle.fields.specs.Limits.{maxVariables, maxValues, maxEntries, maxCost, greatestCost}
+use Rattle.fields.specs.Limits.{maxVariables, maxValues, maxEntries, maxCost, forbiddenCost, greatestCost}
 
--- the cost that a word gives, 0 if it is no cost word
+-- a word that closes an entry: its cost, or in place of it a word that forbids the combination
+unfoldable pub closesEntry : ℕ → Bool
+closesEntry w = eqb (kindOf w) 4 || eqb (kindOf w) 11
+
+-- the cost that such a word gives, 0 if the word closes no entry
 unfoldable pub costOf : ℕ → ℕ
-costOf w = cond (eqb (kindOf w) 4) (payloadOf w) 0
+costOf w = cond (eqb (kindOf w) 4) (payloadOf w) (cond (eqb (kindOf w) 11) forbiddenCost 0)
 
--- the entries that words mean, after the bindings of an open entry; what is neither a binding nor a cost is passed over
+-- the entries that words mean, after the bindings of an open entry; a word that neither binds nor closes is passed over
 unfoldable pub entriesFrom : List Binding → List ℕ → List Entry
+unfolding closesEntry costOf
 entriesFrom bs [] = []
 entriesFrom bs (w ∷ ws) =
     cond (eqb (kindOf w) 3) (entriesFrom (bs ++ (record { variable = variableIn w; value = valueIn w } ∷ [])) ws)
-    (cond (eqb (kindOf w) 4) (record { bindings = bs; cost = payloadOf w } ∷ entriesFrom [] ws)
+    (cond (closesEntry w) (record { bindings = bs; cost = costOf w } ∷ entriesFrom [] ws)
     (entriesFrom bs ws))
 
 -- P holds of every element
@@ -37,11 +44,11 @@ pub record FieldSizes (ds : List ℕ) : Type 0 where
   pub each : EachSize ds
   pub positive : AllPositive ds
 
--- entries over these sizes, at most so many with those before, and none costs more than the limit
+-- entries over these sizes, at most so many with those before, and each costs at most the limit or is forbidden
 pub record Entries (ds : List ℕ) (before : ℕ) (es : List Entry) : Type 0 where
   pub wellFormed : WellFormed ds es
   pub number : before + length es ≤ maxEntries
-  pub costs : Each (λ e. e .cost ≤ maxCost) es
+  pub costs : Each (λ e. (e .cost ≤ maxCost) ⊎ (e .cost ≡ forbiddenCost)) es
 
 -- no assignment of them costs more than the greatest cost
 abbrev pub CostsBounded : Type 0

@@ -2,6 +2,7 @@
 pub mod Limits
 pub mod Front
 pub mod Entries
+pub mod Forbidden
 pub mod Assignment
 pub mod Padding
 pub mod Answers

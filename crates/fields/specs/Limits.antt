@@ -16,9 +16,17 @@ maxEntries = 4096
 abbrev pub maxCost : ℕ
 maxCost = 65535
 
--- the greatest cost that an assignment can have: 4,096 entries of 65,535
+-- the greatest cost that an assignment can have without a forbidden combination: 4,096 entries of 65,535
+abbrev pub greatestAllowed : ℕ
+greatestAllowed = maxEntries * maxCost
+
+-- what an entry that forbids its combination costs (document 02: "above any sum of ordinary costs")
+abbrev pub forbiddenCost : ℕ
+forbiddenCost = 268431361
+
+-- the greatest cost that an assignment can have at all: 4,096 entries that are forbidden
 abbrev pub greatestCost : ℕ
-greatestCost = maxEntries * maxCost
+greatestCost = maxEntries * forbiddenCost
 
 -- low ≤ k ≤ high
 abbrev pub between : ℕ → ℕ → ℕ → Bool

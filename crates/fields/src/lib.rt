@@ -11,7 +11,7 @@ ghost use Rattle.fields.specs.Entries.{costOf};
 ghost use Rattle.fields.specs.Assignment.{isAssignment};
 ghost use Rattle.fields.specs.Answers.{refused, good};
 
-// The most variables, values and entries of a field, and the greatest cost of an entry.
+// The most variables, values and entries of a field, the greatest cost of an entry, and what a forbidden one costs.
 pub const MAX_VARIABLES: usize = 12;
 
 pub const MAX_VALUES: u32 = 8;
@@ -19,6 +19,8 @@ pub const MAX_VALUES: u32 = 8;
 pub const MAX_ENTRIES: u32 = 4096;
 
 pub const MAX_COST: u32 = 65535;
+
+pub const FORBIDDEN_COST: u32 = 268431361;
 
 // A number, 0 for success, and a value, 0 where refused.
 pub struct Answer {
@@ -85,14 +87,16 @@ pub fn copy_bytes(target: &mut [u8], at: usize, bytes: &[u8], n: usize)
     }
 }
 
-// The cost that a word gives, 0 if it is no cost word.
+// The cost that a word gives, 0 if it closes no entry.
 pub fn cost_of(w: u32) -> u32
     ensures { λ r. ⌜ r ≡ costOf w ⌝ }
 {
-    let Word::Cost(c) = words::read(w) else {
-        return 0;
-    };
-    c
+    let word = words::read(w);
+    match word {
+        Word::Cost(c) => c,
+        Word::Forbidden(_) => FORBIDDEN_COST,
+        _ => 0,
+    }
 }
 
 // The bytes are one value below each of n sizes.

@@ -10,7 +10,7 @@ use lib.Seq.{drop-cons}
 use lib.Dec.{eqb, ltb, leb}
 use borrow.Author.Tests.{ltb-true, leb-true, eqb-true, lt-ltb, le-ltb, le-leb, eq-eqb, ne-eqb}
 use Rattle.wcsp.proofs.Lists.{and-left, and-right}
-use Rattle.fields.specs.Limits.{greatestCost}
+use Rattle.fields.specs.Limits.{greatestAllowed}
 use Rattle.figures.specs.declared.Figures.{Figures}
 use Rattle.figures.specs.Counting.{plannedColumn, mostSheets, noFigures, sumOf, sheetsOf, leads, counted, takesSheet}
 pub use Rattle.figures.proofs.Spaces.{line-spaced}
@@ -49,7 +49,7 @@ none-takes = refl
 
 module _ (f : Figures) where
   -- the two tests, in the code's order
-  pub takes-few : (n : ℕ) → n ≡ sheetsOf f → n < mostSheets → leb (f .sum) (n * greatestCost) ≡ takesSheet f
+  pub takes-few : (n : ℕ) → n ≡ sheetsOf f → n < mostSheets → leb (f .sum) (n * greatestAllowed) ≡ takesSheet f
   unfolding takesSheet
   takes-few n e h = rw (← e, lt-ltb n mostSheets h)
 
@@ -60,11 +60,11 @@ module _ (f : Figures) where
   -- and what they say
   pub takes-sheets : takesSheet f ≡ true → sheetsOf f < mostSheets
   unfolding takesSheet
-  takes-sheets e = ltb-true (sheetsOf f) mostSheets (and-left (ltb (sheetsOf f) mostSheets) (leb (f .sum) (sheetsOf f * greatestCost)) e)
+  takes-sheets e = ltb-true (sheetsOf f) mostSheets (and-left (ltb (sheetsOf f) mostSheets) (leb (f .sum) (sheetsOf f * greatestAllowed)) e)
 
-  pub takes-sum : takesSheet f ≡ true → f .sum ≤ sheetsOf f * greatestCost
+  pub takes-sum : takesSheet f ≡ true → f .sum ≤ sheetsOf f * greatestAllowed
   unfolding takesSheet
-  takes-sum e = leb-true (f .sum) (sheetsOf f * greatestCost) (and-right (ltb (sheetsOf f) mostSheets) (leb (f .sum) (sheetsOf f * greatestCost)) e)
+  takes-sum e = leb-true (f .sum) (sheetsOf f * greatestAllowed) (and-right (ltb (sheetsOf f) mostSheets) (leb (f .sum) (sheetsOf f * greatestAllowed)) e)
 
 -- ---- the sheet that leads
 
@@ -119,11 +119,11 @@ module _ (f next : Figures) (column cost : ℕ) where
     counted-behind h = rw (← l, h) e
 
 -- a sheet adds no more than the greatest cost
-sum-within : (n s column cost : ℕ) → s ≤ n * greatestCost → (column ≡ plannedColumn → cost ≤ greatestCost)
-    → cond (eqb column plannedColumn) (s + cost) s ≤ (n + 1) * greatestCost
+sum-within : (n s column cost : ℕ) → s ≤ n * greatestAllowed → (column ≡ plannedColumn → cost ≤ greatestAllowed)
+    → cond (eqb column plannedColumn) (s + cost) s ≤ (n + 1) * greatestAllowed
 sum-within n s column cost h l = go (eqb column plannedColumn) refl
   where
-    go : (b : Bool) → eqb column plannedColumn ≡ b → cond b (s + cost) s ≤ (n + 1) * greatestCost
+    go : (b : Bool) → eqb column plannedColumn ≡ b → cond b (s + cost) s ≤ (n + 1) * greatestAllowed
     go true e = omega (arith, l (eqb-true column plannedColumn e))
     go false e = omega arith
 
@@ -133,7 +133,7 @@ module _ (f : Figures) (column cost : ℕ) (h : column < length (f .counts)) whe
   sheets-counted = sumOf-set (f .counts) column h
 
   -- room for a sheet stays as long as there are fewer than 10,000
-  pub takes-counted : takesSheet f ≡ true → (column ≡ plannedColumn → cost ≤ greatestCost) → sheetsOf f + 1 < mostSheets
+  pub takes-counted : takesSheet f ≡ true → (column ≡ plannedColumn → cost ≤ greatestAllowed) → sheetsOf f + 1 < mostSheets
       → takesSheet (counted f column cost) ≡ true
   unfolding takesSheet counted
   takes-counted e l few =

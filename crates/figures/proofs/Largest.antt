@@ -7,7 +7,7 @@ use mathlib.Core.List.{List, [], _∷_, _++_}
 use lib.ListN.{length}
 use lib.Dec.{eqb}
 use borrow.Author.Tests.{eqb-true, eqb-false}
-use Rattle.fields.specs.Limits.{greatestCost}
+use Rattle.fields.specs.Limits.{greatestAllowed}
 use Rattle.fields.specs.Entries.{Each, nilEach, consEach}
 use Rattle.figures.specs.Counting.{sumOf}
 use Rattle.figures.specs.Tallies.{SheetFigure, isPlanned, costsOf, greatest, firstAt}
@@ -98,4 +98,4 @@ costs-few (o ∷ os) = go (isPlanned o) (costs-few os)
     go false ih = omega (arith, ih)
 
 pub sumIsBounded : SumIsBounded
-sumIsBounded os hs = let most = sumOf-most (costsOf os) greatestCost hs in let few = costs-few os in omega (arith, most, few)
+sumIsBounded os hs = let most = sumOf-most (costsOf os) greatestAllowed hs in let few = costs-few os in omega (arith, most, few)

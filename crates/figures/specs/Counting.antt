@@ -5,12 +5,12 @@ use mathlib.Core.Bool.{Bool, cond, _&&_, _||_}
 use mathlib.Core.List.{List, [], _∷_}
 use lib.ListN.{getD, set, replicate}
 use lib.Dec.{eqb, ltb, leb}
-use Rattle.fields.specs.Limits.{greatestCost}
+use Rattle.fields.specs.Limits.{greatestAllowed}
 use Rattle.figures.specs.declared.Figures.{Figures}
 
--- the columns: planned, refused under 1 to 5, 10 and 12, paused, full
+-- the columns: planned, refused under 1 to 5, 10, 12 and 15, paused, full
 abbrev pub columnCount : ℕ
-columnCount = 10
+columnCount = 11
 
 -- the column of the sheets that are planned
 abbrev pub plannedColumn : ℕ
@@ -47,4 +47,4 @@ counted f column cost =
 
 -- figures of fewer than 10,000 sheets, whose costs add up to no more than such sheets can have
 unfoldable pub takesSheet : Figures → Bool
-takesSheet f = ltb (sheetsOf f) mostSheets && leb (f .sum) (sheetsOf f * greatestCost)
+takesSheet f = ltb (sheetsOf f) mostSheets && leb (f .sum) (sheetsOf f * greatestAllowed)

@@ -4,7 +4,7 @@ use mathlib.Core.Path.{_≡_}
 use mathlib.Core.Bool.{true}
 use mathlib.Core.List.{List, [], _∷_, _++_}
 use lib.ListN.{length}
-use Rattle.fields.specs.Limits.{greatestCost}
+use Rattle.fields.specs.Limits.{greatestAllowed}
 use Rattle.fields.specs.Entries.{Each}
 use Rattle.figures.specs.declared.Figures.{Figures}
 use Rattle.figures.specs.Counting.{columnCount, noFigures, sheetsOf, counted}
@@ -39,4 +39,4 @@ LargestIsFirst = (os : List SheetFigure) → LargestOf os (figuresOf os .largest
 
 -- no sum passes what so many plans can cost
 abbrev pub SumIsBounded : Type 0
-SumIsBounded = (os : List SheetFigure) → Each (λ k. k ≤ greatestCost) (costsOf os) → figuresOf os .sum ≤ length os * greatestCost
+SumIsBounded = (os : List SheetFigure) → Each (λ k. k ≤ greatestAllowed) (costsOf os) → figuresOf os .sum ≤ length os * greatestAllowed

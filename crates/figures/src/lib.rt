@@ -4,10 +4,10 @@ pub mod line;
 ghost use mathlib.Core.Path.{_≡_};
 ghost use mathlib.Core.Bool.{true};
 ghost use Prim.Native.Nat.{_≤_, _<_};
-ghost use Rattle.fields.specs.Limits.{greatestCost};
+ghost use Rattle.fields.specs.Limits.{greatestAllowed};
 ghost use Rattle.figures.specs.Counting.{columnCount, plannedColumn, noFigures, sumOf, sheetsOf, leads, counted, takesSheet};
 
-pub const COLUMNS: usize = 10;
+pub const COLUMNS: usize = 11;
 
 // The column of the sheets that are planned.
 pub const PLANNED: usize = 0;
@@ -15,7 +15,7 @@ pub const PLANNED: usize = 0;
 // Reading ends after this sheet.
 pub const MOST_SHEETS: u64 = 10000;
 
-// The greatest cost that a plan can have.
+// The greatest cost that a plan can have, which has no forbidden combination.
 const GREATEST_COST: u64 = 268431360;
 
 // The count of each column, the sum of the least costs, and the largest with its sheet (0: none was planned).
@@ -76,7 +76,7 @@ fn is_leading(figures: Figures, column: usize, cost: u64) -> bool
 // One sheet more, under a column; its cost counts if it is planned.
 pub fn count(figures: Figures, column: usize, cost: u64) -> Figures
     requires { ⌜ (takesSheet figures ≡ true) × (column < columnCount) ⌝ }
-    requires { ⌜ (column ≡ plannedColumn → cost ≤ greatestCost) ⌝ }
+    requires { ⌜ (column ≡ plannedColumn → cost ≤ greatestAllowed) ⌝ }
     ensures { λ r. ⌜ r ≡ counted figures column cost ⌝ }
 {
     let number = sheets(figures) + 1;

@@ -8,8 +8,8 @@ ghost use Rattle.figures.specs.Line.{figuresLine, spaced};
 
 // The counts, a space behind each.
 fn put_counts(out: &mut [u8], at: usize, counts: [u32; COLUMNS]) -> usize
-    requires { ⌜ at + 210 ≤ length (now out) ⌝ }
-    ensures { λ r. ⌜ Put (now (out .entry)) at (spaced counts) (now (out .exit)) r × (r ≤ at + 210) ⌝ }
+    requires { ⌜ at + 231 ≤ length (now out) ⌝ }
+    ensures { λ r. ⌜ Put (now (out .entry)) at (spaced counts) (now (out .exit)) r × (r ≤ at + 231) ⌝ }
 {
     let mut end = at;
     let mut i = 0;
@@ -21,10 +21,10 @@ fn put_counts(out: &mut [u8], at: usize, counts: [u32; COLUMNS]) -> usize
     end
 }
 
-// Ten counts of at most 20 digits and a space take 210 bytes at most, the other three numbers 64.
+// Eleven counts of at most 20 digits and a space take 231 bytes at most, the other three numbers 64.
 pub fn put_figures(figures: Figures, out: &mut [u8]) -> usize
-    requires { ⌜ 274 ≤ length (now out) ⌝ }
-    ensures { λ r. ⌜ Put (now (out .entry)) 0 (figuresLine figures) (now (out .exit)) r × (r ≤ 274) ⌝ }
+    requires { ⌜ 295 ≤ length (now out) ⌝ }
+    ensures { λ r. ⌜ Put (now (out .entry)) 0 (figuresLine figures) (now (out .exit)) r × (r ≤ 295) ⌝ }
 {
     let counts = figures.counts;
     let head = put_counts(out, 0, counts);

@@ -15,7 +15,9 @@ use Rattle.fields.specs.Limits.{maxVariables, maxValues, maxEntries, maxCost}
 use Rattle.fields.specs.Front.{frontWords}
 use Rattle.fields.specs.Entries.{EachSize, nilEach, consEach, FieldSizes, entriesFrom}
 use Rattle.fields.proofs.Fronts.{head-is, size-is}
-use Rattle.entries.specs.Entries.{scanBinding, scanCost, scanWord, resume, entriesFault}
+use Rattle.fields.proofs.Closing.{closes-cost}
+use Rattle.fields.proofs.Costs.{cost-some}
+use Rattle.entries.specs.Entries.{scanBinding, scanClosing, scanCost, scanWord, resume, entriesFault}
 use Rattle.input.specs.Instance.{stationsFault, instanceFault, sizesOf, entriesOf}
 use Rattle.sheet.specs.Sheet.{legCount, positionsOf, sheetSizes, entryWordsOf}
 use Rattle.making.specs.Made.{Leg, legEntry, allLegWords, legsFrom, madeWords, madeEntries}
@@ -35,7 +37,7 @@ module _ (sizes : List ℕ) (from count : ℕ) where
 
   fault-cost : (c : ℕ) (ws : List ℕ) → c ≤ maxCost → count < maxEntries
       → entriesFault sizes from count (costWord c ∷ ws) ≡ entriesFault sizes 0 (suc count) ws
-  unfolding entriesFault scanWord scanCost resume
+  unfolding entriesFault scanWord scanCost scanClosing resume
   fault-cost c ws hc room =
       let (k, p) = cost-kind (costWord c) c (read-cost c (omega arith)) in
       rw (ne-eqb (kindOf (costWord c)) 3 (omega arith), eq-eqb (kindOf (costWord c)) 4 k, p, le-ltb maxCost c hc, lt-leb maxEntries count room)
@@ -52,8 +54,8 @@ module _ (bs : List Binding) where
       → entriesFrom bs (costWord c ∷ ws) ≡ record { bindings = bs; cost = c } ∷ entriesFrom [] ws
   unfolding entriesFrom
   means-cost c ws hc =
-      let (k, p) = cost-kind (costWord c) c (read-cost c hc) in
-      rw (ne-eqb (kindOf (costWord c)) 3 (omega arith), eq-eqb (kindOf (costWord c)) 4 k, p)
+      let (n, k) = closes-cost (costWord c) c (read-cost c hc) in
+      rw (n, k, ← cost-some (costWord c) c (read-cost c hc))
 
 -- ---- legs
 

@@ -1,8 +1,8 @@
--- A run on a sheet's instance: its bound is never above a cost; once it is done the plan call is good, and its assignment the best.
-use Prim.Native.Nat.{ℕ, _≤_, min}
+-- A run on a sheet's instance: its bound is never above a cost; once it is done the plan call gives the best assignment, or 15 where all are forbidden.
+use Prim.Native.Nat.{ℕ, _≤_, _<_, min}
 use native.Mathlib.Omega.{arith}
 use mathlib.Core.Path.{_≡_, refl, sym, ap}
-use mathlib.Core.Bool.{true}
+use mathlib.Core.Bool.{true, false}
 use mathlib.Core.List.{List, [], _∷_, _++_}
 use mathlib.Core.Option.{none}
 use lib.ListN.{length, take, drop}
@@ -11,6 +11,8 @@ use Rattle.wcsp.specs.Row.{emptyWeight}
 use Rattle.wcsp.specs.Resolve.{nextPair}
 use Rattle.wcsp.specs.Rebuild.{rebuilt}
 use Rattle.wcsp.proofs.Lists.{along-length}
+use Rattle.fields.specs.Limits.{forbiddenCost}
+use Rattle.fields.specs.Forbidden.{hasForbidden}
 use Rattle.sheet.specs.Sheet.{sheetFault, sheetSizes}
 use Rattle.input.specs.Instance.{sizesOf, entriesOf}
 use Rattle.table.specs.Meaning.{tableSizes, ownRows, capacityOf}
@@ -24,10 +26,11 @@ use Rattle.resolution.specs.Numbers.{outcomeField, runNumber}
 use Rattle.assignment.specs.Calls.{planCall}
 use Rattle.checker.specs.Theorems.{Best}
 use Rattle.calls.specs.Calls.{runAsked, afterCall, afterCalls}
+use Rattle.calls.specs.AllForbidden.{AllForbidden, ForbidsExactly}
 use Rattle.calls.specs.Demand.{UpheldFrom}
 use Rattle.calls.proofs.Upholding.{demand3}
 use Rattle.planning.specs.Solving.{tableBuffer, stepLimit}
-use Rattle.planning.specs.Theorems.{DoneIsBest, NoneBelow, RunFrom}
+use Rattle.planning.specs.Theorems.{DoneIsBest, DoneIsForbidden, NoneBelow, RunFrom}
 
 -- a run on a valid table leaves a word in its slice for each of its steps
 words-made : (t slice : List ℕ) (limit : ℕ) → validTable t ≡ true
@@ -98,24 +101,58 @@ module _ (sheet t slice : List ℕ) (limit : ℕ) (fine : sheetFault sheet ≡ 0
     unfolding plan
     best = upheld .1 .best no-pair
 
-    written : planCall left target ≡ record { number = 0; target = plan ++ drop (length (sizesOf (madeWords sheet))) target }
-    unfolding plan
-    written = upheld .1 .planWritten target (omega (arith, ap length same-sizes)) no-pair
+    forbids : ForbidsExactly (sizesOf (madeWords sheet)) (entriesOf (madeWords sheet)) left
+    forbids = upheld .1 .forbidden no-pair
 
-    front : take (length (sheetSizes sheet)) (planCall left target .target) ≡ plan
-    front =
-        let many : length (plan) ≡ length (sheetSizes sheet) = omega (arith, ap length same-sizes, along-length (best .inRange)) in
-        rw written (take-at (plan) (drop (length (sizesOf (madeWords sheet))) target) _ many)
+    -- the run's bound
+    bound : ℕ
+    bound = runCall (encodeCall (madeWords sheet) t .table) limit slice .answer .bound
 
-    plan-best : Best (sizesOf (madeWords sheet)) (entriesOf (madeWords sheet)) (take (length (sheetSizes sheet)) (planCall left target .target))
-        (runCall (encodeCall (madeWords sheet) t .table) limit slice .answer .bound)
-    unfolding left
-    plan-best = rw (front, before .1 .runBound limit slice) best
+    bound-weighs : bound ≡ emptyWeight (length (sizesOf (madeWords sheet))) (ownRows left)
+    unfolding left bound
+    bound-weighs = before .1 .runBound limit slice
 
-    number-good : planCall left target .number ≡ 0
-    number-good = ap (λ r. r .number) written
+    room : length (sizesOf (madeWords sheet)) ≤ length target
+    room = omega (arith, ap length same-sizes)
+
+    module _ (light : bound < forbiddenCost) where
+      written : planCall left target ≡ record { number = 0; target = plan ++ drop (length (sizesOf (madeWords sheet))) target }
+      unfolding plan
+      written = upheld .1 .planWritten target room no-pair (rw (← bound-weighs) light)
+
+      front : take (length (sheetSizes sheet)) (planCall left target .target) ≡ plan
+      front =
+          let many : length (plan) ≡ length (sheetSizes sheet) = omega (arith, ap length same-sizes, along-length (best .inRange)) in
+          rw written (take-at (plan) (drop (length (sizesOf (madeWords sheet))) target) _ many)
+
+      plan-best : Best (sizesOf (madeWords sheet)) (entriesOf (madeWords sheet)) (take (length (sheetSizes sheet)) (planCall left target .target)) bound
+      plan-best = rw (front, bound-weighs) best
+
+      plan-free : hasForbidden (entriesOf (madeWords sheet)) (take (length (sheetSizes sheet)) (planCall left target .target)) ≡ false
+      unfolding plan
+      plan-free = rw front (forbids .free (rw (← bound-weighs) light))
+
+      number-good : planCall left target .number ≡ 0
+      number-good = ap (λ r. r .number) written
+
+    module _ (heavy : forbiddenCost ≤ bound) where
+      plan-refused : planCall left target ≡ record { number = 15; target = target }
+      plan-refused = upheld .1 .planForbidden target room no-pair (rw (← bound-weighs) heavy)
+
+      every-forbidden : AllForbidden (sizesOf (madeWords sheet)) (entriesOf (madeWords sheet))
+      every-forbidden = forbids .exactly .0 (rw (← bound-weighs) heavy)
 
 pub doneIsBest : DoneIsBest
-unfolding left
-doneIsBest sheet t slice target limit fine coded ended long =
-    (number-good sheet t slice limit fine coded target ended long, plan-best sheet t slice limit fine coded target ended long)
+unfolding left bound
+doneIsBest sheet t slice target limit fine coded ended long light = (
+  number-good sheet t slice limit fine coded target ended long light,
+  plan-best sheet t slice limit fine coded target ended long light,
+  plan-free sheet t slice limit fine coded target ended long light,
+)
+
+pub doneIsForbidden : DoneIsForbidden
+unfolding left bound
+doneIsForbidden sheet t slice target limit fine coded ended long heavy = (
+  plan-refused sheet t slice limit fine coded target ended long heavy,
+  every-forbidden sheet t slice limit fine coded target ended long heavy,
+)

@@ -5,10 +5,10 @@ use mathlib.Core.Path.{_≡_, refl, sym, ap, ap₂}
 use mathlib.Core.Bool.{Bool, true, false, cond}
 use mathlib.Core.List.{List}
 use lib.ListN.{length, take, replicate, length-replicate}
-use lib.Dec.{eqb, ltb}
-use borrow.Author.Tests.{eq-eqb, eqb-true, eqb-false, ltb-true, ltb-false}
+use lib.Dec.{eqb, leb, ltb}
+use borrow.Author.Tests.{eq-eqb, eqb-true, eqb-false, leb-true, leb-false, ltb-true, ltb-false}
 use Rattle.wcsp.specs.Row.{Row}
-use Rattle.fields.specs.Limits.{maxVariables}
+use Rattle.fields.specs.Limits.{maxVariables, forbiddenCost}
 use Rattle.sheet.proofs.Acceptance.{accepted-sheet}
 use Rattle.sheet.specs.Sheet.{sheetFault}
 use Rattle.input.specs.Instance.{instanceFault, sizesOf, entriesOf}
@@ -25,8 +25,8 @@ use Rattle.checker.proofs.Encoded.{encodes, encode-tests, coded}
 use Rattle.calls.specs.Demand.{RunEnds, noneLeft, limitMet, noRoom}
 use Rattle.littleendian.specs.Words.{wordsIn}
 use Rattle.planning.specs.Solving.{bufferWords, tableBuffer, stepLimit, refusedSolved, finishedSolved, endedSolved, solveTable, solveInstance, withInstance, solveCall, sheetSolved, solvedOf}
-use Rattle.planning.specs.Theorems.{NoneBelow, RunFrom, Held, SheetMeans, faulty, longInstance, manyRows, planned, paused, full, Means, tooLong, noWords, ofWords, SolveMeans, SolvedMeans}
-use Rattle.planning.proofs.Best.{doneIsBest, run-below, run-from}
+use Rattle.planning.specs.Theorems.{NoneBelow, RunFrom, Held, SheetMeans, faulty, longInstance, manyRows, noneAllowed, planned, paused, full, Means, tooLong, noWords, ofWords, SolveMeans, SolvedMeans}
+use Rattle.planning.proofs.Best.{doneIsBest, doneIsForbidden, run-below, run-from}
 use Rattle.making.proofs.MakeTests.{Making, written, tooShort, atFault, making, made-in}
 use Rattle.sheet.proofs.Faults.{sheet-small}
 
@@ -79,12 +79,26 @@ module _ (sheet instance table slice : List ℕ) (li : length instance ≡ buffe
         ran : (o : Outcome) → r .answer .outcome ≡ o → RunFrom (madeWords sheet) (r .answer .steps) (r .answer .bound) (outcomeNumber o) (outcomeField o)
         ran o f = rw (← f) (run-from sheet table slice stepLimit fine e lt (omega arith))
 
-        go : (o : Outcome) → r .answer .outcome ≡ o → SheetMeans sheet (endedSolved (r .table) (r .answer .steps) (r .answer .bound) o)
-        go Outcome.Done f =
-            let zeros : List ℕ = replicate maxVariables 0 in
-            let (number, best) = doneIsBest sheet table slice zeros stepLimit fine e (ap outcomeField f) (accepted-sheet sheet fine .sizes .most) in
+        zeros : List ℕ
+        zeros = replicate maxVariables 0
+
+        -- by the bound of a run that is done
+        done : r .answer .outcome ≡ Outcome.Done → (b : Bool) → leb forbiddenCost (r .answer .bound) ≡ b
+            → SheetMeans sheet (finishedSolved (r .table) (r .answer .steps) (r .answer .bound))
+        done f true b =
+            let (refused, all) =
+            doneIsForbidden sheet table slice zeros stepLimit fine e (ap outcomeField f) (accepted-sheet sheet fine .sizes .most)
+            (leb-true forbiddenCost (r .answer .bound) b) in
+            rw refused (noneAllowed (r .answer .steps) (r .answer .bound) held all (ran Outcome.Done f))
+        done f false b =
+            let (number, best, free) =
+            doneIsBest sheet table slice zeros stepLimit fine e (ap outcomeField f) (accepted-sheet sheet fine .sizes .most)
+            (leb-false forbiddenCost (r .answer .bound) b) in
             rw (eq-eqb (planCall (r .table) zeros .number) 0 number)
-            (planned (planCall (r .table) zeros .target) (r .answer .steps) (r .answer .bound) held best (ran Outcome.Done f))
+            (planned (planCall (r .table) zeros .target) (r .answer .steps) (r .answer .bound) held best free (ran Outcome.Done f))
+
+        go : (o : Outcome) → r .answer .outcome ≡ o → SheetMeans sheet (endedSolved (r .table) (r .answer .steps) (r .answer .bound) o)
+        go Outcome.Done f = done f (leb forbiddenCost (r .answer .bound)) refl
         go Outcome.Paused f = paused (r .answer .steps) (r .answer .bound) held below (ran Outcome.Paused f)
         go (Outcome.Refused k) f =
             let x : RunFrom (madeWords sheet) (r .answer .steps) (r .answer .bound) k (outcomeField (Outcome.Refused k)) = ran (Outcome.Refused k) f in

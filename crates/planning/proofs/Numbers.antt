@@ -4,7 +4,7 @@ use native.Mathlib.Omega.{arith}
 use mathlib.Core.List.{List}
 use Rattle.planning.specs.declared.Solved.{Solved}
 use Rattle.planning.specs.Solving.{endingNumber}
-use Rattle.planning.specs.Theorems.{SheetMeans, faulty, longInstance, manyRows, planned, paused, full, Means, tooLong, noWords, ofWords, SheetNumber, success, fault, tooShort, tooMany, SolvedNumbers}
+use Rattle.planning.specs.Theorems.{SheetMeans, faulty, longInstance, manyRows, noneAllowed, planned, paused, full, Means, tooLong, noWords, ofWords, SheetNumber, success, fault, tooShort, tooMany, noPlan, SolvedNumbers}
 use Rattle.planning.proofs.Meaning.{solvedMeans}
 
 sheet-number : (sheet : List ℕ) (s : Solved) → SheetMeans sheet s → SheetNumber (endingNumber (s .ending))
@@ -12,7 +12,8 @@ unfolding endingNumber
 sheet-number sheet _ (faulty k e low high) = fault k low high
 sheet-number sheet _ (longInstance e h) = tooShort
 sheet-number sheet _ (manyRows e h m) = tooMany
-sheet-number sheet _ (planned plan steps least h b r) = success
+sheet-number sheet _ (noneAllowed steps b h f r) = noPlan
+sheet-number sheet _ (planned plan steps least h b f r) = success
 sheet-number sheet _ (paused steps b h n r) = success
 sheet-number sheet _ (full steps b h n r) = tooMany
 

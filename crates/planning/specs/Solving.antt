@@ -19,7 +19,7 @@ abbrev pub bufferWords : ℕ
 bufferWords = 16000
 
 abbrev pub tableBuffer : ℕ
-tableBuffer = 15014
+tableBuffer = 15998
 
 abbrev pub stepLimit : ℕ
 stepLimit = 16000

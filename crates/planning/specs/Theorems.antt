@@ -1,11 +1,14 @@
 -- What a sheet's value means: a refusal with its reason; the best assignment of the sheet's instance, with its cost; or a bound on every cost.
 use Prim.Native.Nat.{ℕ, _*_, _%_, _≤_, _<_}
 use mathlib.Core.Path.{_≡_}
+use mathlib.Core.Bool.{false}
 use mathlib.Core.List.{List}
 use lib.ListN.{length, take}
 use Rattle.wcsp.specs.Clause.{InRange}
 use Rattle.wcsp.specs.Row.{Row, emptyWeight}
 use Rattle.wcsp.specs.Entry.{Entry, cost}
+use Rattle.fields.specs.Limits.{forbiddenCost}
+use Rattle.fields.specs.Forbidden.{hasForbidden}
 use Rattle.sheet.specs.Sheet.{sheetFault, sheetSizes}
 use Rattle.input.specs.Instance.{sizesOf, entriesOf}
 use Rattle.table.specs.Layout.{capacity}
@@ -16,22 +19,36 @@ use Rattle.resolution.specs.Numbers.{outcomeField}
 use Rattle.assignment.specs.Calls.{planCall}
 use Rattle.checker.specs.Theorems.{Best}
 use Rattle.calls.specs.Calls.{Derives}
+use Rattle.calls.specs.AllForbidden.{AllForbidden}
 use Rattle.calls.specs.Demand.{RunEnds}
 use Rattle.planning.specs.declared.Ending.{Ending}
 use Rattle.planning.specs.declared.Solved.{Solved}
 use Rattle.littleendian.specs.Words.{wordsIn}
 use Rattle.planning.specs.Solving.{bufferWords, tableBuffer, stepLimit, refusedSolved, stoppedSolved, plannedSolved, endingNumber, solveCall, solvedOf}
 
--- for every accepted sheet, every table that takes its encoding, every limit and slice: once the run is done, the plan call is good, the bytes
--- that it writes to a target with room for them are an assignment of least cost, and that cost is the bound that the run returned
+-- for every accepted sheet, every table that takes its encoding, every limit and slice: once the run is done, with a bound below a forbidden entry's
+-- cost, the plan call is good, the bytes that it writes to a target with room for them are an assignment of least cost, that cost is the bound that the
+-- run returned, and the assignment has no forbidden combination
 abbrev pub DoneIsBest : Type 0
 DoneIsBest = (sheet t slice target : List ℕ) (limit : ℕ) → sheetFault sheet ≡ 0 → encodeCall (madeWords sheet) t .answer .number ≡ 0
     → let r = runCall (encodeCall (madeWords sheet) t .table) limit slice in
     outcomeField (r .answer .outcome) ≡ 0
     → length (sheetSizes sheet) ≤ length target
-    → (planCall (r .table) target .number ≡ 0)
-    × Best (sizesOf (madeWords sheet)) (entriesOf (madeWords sheet)) (take (length (sheetSizes sheet)) (planCall (r .table) target .target))
-    (r .answer .bound)
+    → r .answer .bound < forbiddenCost
+    → let plan = take (length (sheetSizes sheet)) (planCall (r .table) target .target) in
+    (planCall (r .table) target .number ≡ 0)
+    × Best (sizesOf (madeWords sheet)) (entriesOf (madeWords sheet)) plan (r .answer .bound)
+    × (hasForbidden (entriesOf (madeWords sheet)) plan ≡ false)
+
+-- with any other bound the plan call is refused with 15, and every assignment has a forbidden combination
+abbrev pub DoneIsForbidden : Type 0
+DoneIsForbidden = (sheet t slice target : List ℕ) (limit : ℕ) → sheetFault sheet ≡ 0 → encodeCall (madeWords sheet) t .answer .number ≡ 0
+    → let r = runCall (encodeCall (madeWords sheet) t .table) limit slice in
+    outcomeField (r .answer .outcome) ≡ 0
+    → length (sheetSizes sheet) ≤ length target
+    → forbiddenCost ≤ r .answer .bound
+    → (planCall (r .table) target ≡ record { number = 15; target = target })
+    × AllForbidden (sizesOf (madeWords sheet)) (entriesOf (madeWords sheet))
 
 -- a bound that no assignment undercuts
 abbrev pub NoneBelow : List ℕ → List Entry → ℕ → Type 0
@@ -62,9 +79,13 @@ pub data SheetMeans (sheet : List ℕ) : Solved → Type 0 where
   -- else its encoding has more rows than the table takes
   manyRows : sheetFault sheet ≡ 0 → length (madeWords sheet) ≤ bufferWords
       → capacity tableBuffer (length (sheetSizes sheet)) < length (encodedRows (madeWords sheet)) → SheetMeans sheet (refusedSolved 12)
-  -- no pair is left: the best assignment and its cost
+  -- no pair is left, and every assignment has a forbidden combination
+  noneAllowed : (steps b : ℕ) → Held sheet → AllForbidden (sizesOf (madeWords sheet)) (entriesOf (madeWords sheet))
+      → RunFrom (madeWords sheet) steps b 0 0 → SheetMeans sheet (refusedSolved 15)
+  -- no pair is left: the best assignment, which has no forbidden combination, and its cost
   planned : (plan : List ℕ) (steps least : ℕ) → Held sheet
       → Best (sizesOf (madeWords sheet)) (entriesOf (madeWords sheet)) (take (length (sheetSizes sheet)) plan) least
+      → hasForbidden (entriesOf (madeWords sheet)) (take (length (sheetSizes sheet)) plan) ≡ false
       → RunFrom (madeWords sheet) steps least 0 0 → SheetMeans sheet (plannedSolved plan steps least)
   -- the limit is reached: a bound on every cost
   paused : (steps b : ℕ) → Held sheet → NoneBelow (sizesOf (madeWords sheet)) (entriesOf (madeWords sheet)) b
@@ -97,6 +118,7 @@ pub data SheetNumber : ℕ → Type 0 where
   fault : (k : ℕ) → 1 ≤ k → k ≤ 5 → SheetNumber k
   tooShort : SheetNumber 10
   tooMany : SheetNumber 12
+  noPlan : SheetNumber 15
 
 abbrev pub SolvedNumbers : Type 0
 SolvedNumbers = (bytes : List ℕ) → SheetNumber (endingNumber (solvedOf bytes .ending))

@@ -9,7 +9,7 @@ use resolution::RunAnswer;
 // The program's buffers in words, one of BUFFER_WORDS for each of sheet, instance and steps; the limit of its run.
 pub const BUFFER_WORDS: usize = 16000;
 
-pub const TABLE_BUFFER: usize = 15014;
+pub const TABLE_BUFFER: usize = 15998;
 
 pub const STEP_LIMIT: usize = 16000;
 

@@ -4,7 +4,7 @@ use mathlib.Core.List.{List}
 use Rattle.planning.specs.declared.Solved.{Solved}
 use Rattle.planning.specs.Solving.{solvedOf}
 use Rattle.littleendian.specs.Words.{wordsIn}
-use Rattle.planning.specs.Theorems.{SheetMeans, faulty, longInstance, manyRows, planned, paused, full, Means, tooLong, noWords, ofWords}
+use Rattle.planning.specs.Theorems.{SheetMeans, faulty, longInstance, manyRows, noneAllowed, planned, paused, full, Means, tooLong, noWords, ofWords}
 use Rattle.planning.proofs.Meaning.{solvedMeans}
 use Rattle.printing.specs.Printed.{endingText, solvedText}
 use Rattle.printing.specs.Theorems.{Prints, refusedPrints, plannedPrints, pausedPrints, fullPrints, PrintedMeans}
@@ -14,7 +14,8 @@ unfolding endingText
 sheet-prints sheet _ (faulty k e low high) = refusedPrints k
 sheet-prints sheet _ (longInstance e h) = refusedPrints 10
 sheet-prints sheet _ (manyRows e h m) = refusedPrints 12
-sheet-prints sheet _ (planned plan steps least h b r) = plannedPrints plan steps least
+sheet-prints sheet _ (noneAllowed steps b h f r) = refusedPrints 15
+sheet-prints sheet _ (planned plan steps least h b f r) = plannedPrints plan steps least
 sheet-prints sheet _ (paused steps b h n r) = pausedPrints steps b
 sheet-prints sheet _ (full steps b h n r) = fullPrints steps b
 

@@ -17,7 +17,7 @@ use Rattle.planning.specs.declared.Ending.{Ending}
 use Rattle.planning.specs.declared.Solved.{Solved}
 use Rattle.littleendian.specs.Words.{wordsIn}
 use Rattle.planning.specs.Solving.{bufferWords}
-use Rattle.planning.specs.Theorems.{SheetMeans, faulty, longInstance, manyRows, planned, paused, full, Means, tooLong, noWords, ofWords}
+use Rattle.planning.specs.Theorems.{SheetMeans, faulty, longInstance, manyRows, noneAllowed, planned, paused, full, Means, tooLong, noWords, ofWords}
 use Rattle.printing.specs.Plans.{HoldsPlan}
 
 module _ (sheet plan : List ℕ) (least : ℕ) (fine : sheetFault sheet ≡ 0)
@@ -40,7 +40,8 @@ sheet-holds : (sheet : List ℕ) (s : Solved) → s .ending ≡ Ending.Planned �
 sheet-holds sheet _ e (faulty k f g h) = absurd (let z : _≡_ {A = ℕ} 0 1 = cc in omega arith)
 sheet-holds sheet _ e (longInstance f g) = absurd (let z : _≡_ {A = ℕ} 0 1 = cc in omega arith)
 sheet-holds sheet _ e (manyRows f g h) = absurd (let z : _≡_ {A = ℕ} 0 1 = cc in omega arith)
-sheet-holds sheet _ e (planned plan steps least h best r) = best-holds sheet plan least (h .fine) best
+sheet-holds sheet _ e (noneAllowed steps b h f r) = absurd (let z : _≡_ {A = ℕ} 0 1 = cc in omega arith)
+sheet-holds sheet _ e (planned plan steps least h best f r) = best-holds sheet plan least (h .fine) best
 sheet-holds sheet _ e (paused steps b h f r) = absurd (let z : _≡_ {A = ℕ} 0 1 = cc in omega arith)
 sheet-holds sheet _ e (full steps b h f r) = absurd (let z : _≡_ {A = ℕ} 0 1 = cc in omega arith)
 

@@ -29,7 +29,8 @@ words-read (a ∷ []) h = absurd (omega arith)
 words-read (a ∷ b ∷ []) h = absurd (omega arith)
 words-read (a ∷ b ∷ c ∷ []) h = absurd (omega arith)
 words-read (a ∷ b ∷ c ∷ d ∷ []) h = absurd (omega arith)
-words-read (a ∷ b ∷ c ∷ d ∷ w ∷ ws) h = refl
+words-read (a ∷ b ∷ c ∷ d ∷ low ∷ []) h = absurd (omega arith)
+words-read (a ∷ b ∷ c ∷ d ∷ low ∷ high ∷ ws) h = refl
 
 pub rowLaws : FormLaws rowForm
 unfolding rawAt

@@ -1,5 +1,5 @@
 -- The raw row of a packed clause: its clause and its weight are read back from it, its words pass the test for a weight, and two such rows have the same sign words exactly if the clauses have the same signs.
-use Prim.Native.Nat.{ℕ, zero, suc, _+_, _%_, _<_, _≤_}
+use Prim.Native.Nat.{ℕ, zero, suc, _+_, _*_, _/_, _%_, _<_, _≤_}
 use native.Mathlib.Nat.{add-zero}
 use native.Mathlib.Omega.{arith}
 use mathlib.Core.Path.{_≡_, refl, sym, ap, _∙_}
@@ -7,15 +7,15 @@ use mathlib.Core.Bool.{Bool, true, false, not, _&&_, false≢true}
 use mathlib.Core.List.{List, [], _∷_, _++_}
 use lib.ListN.{getD, drop}
 use lib.Seq.{getD-drop}
-use lib.Dec.{eqb, leb}
-use borrow.Author.Tests.{eqb-true, eq-eqb, ne-eqb, leb-true, le-leb}
+use lib.Dec.{eqb}
+use borrow.Author.Tests.{eqb-true, eqb-false, eq-eqb, ne-eqb}
 use Rattle.wcsp.specs.Clause.{same}
 use Rattle.wcsp.proofs.Lists.{both-true, and-left, and-right, ne-true}
-use Rattle.words.specs.Layout.{kindOf, payloadOf, signsWord, weightWord}
+use Rattle.words.specs.Layout.{kindOf, payloadOf, signsWord, weightWord, highWord}
 use Rattle.clause.specs.declared.Clause.{Clause}
 use Rattle.clause.specs.Packed.{FitsBlocks, signsOf}
 use Rattle.clause.proofs.Signs12.{same-clause, clause-same}
-use Rattle.rows.specs.Raw.{maxWeight, Raw, noRaw, rawWords, rawAt, weightIn, isWeight, rowWeighs, weighing, signWords, rawRow, clauseIn, sameSigns}
+use Rattle.rows.specs.Raw.{maxWeight, highUnit, Raw, noRaw, rawWords, rawAt, weightIn, isWeight, rowWeighs, weighing, signWords, rawRow, clauseIn, sameSigns}
 
 -- the block of a sign word
 pub block-of : (k x : ℕ) → x < 16777216 → signsWord k x % 16777216 ≡ x
@@ -45,41 +45,75 @@ weight-none = refl
 
 -- ---- the test for a weight
 
-word-made : (w : ℕ) → isWeight w ≡ true → (w ≡ weightWord (payloadOf w)) × (1 ≤ payloadOf w)
-word-made w e =
-    let a = eqb-true (kindOf w) 6 (and-left (eqb (kindOf w) 6) (leb 1 (payloadOf w)) e) in
-    let b = leb-true 1 (payloadOf w) (and-right (eqb (kindOf w) 6) (leb 1 (payloadOf w)) e) in
-    (omega arith, b)
+payload-positive : (p q : ℕ) → not (eqb p 0 && eqb q 0) ≡ true → 1 ≤ p + q * highUnit
+payload-positive p q e = go (eqb p 0) (eqb q 0) refl refl e
+  where
+    go : (x y : Bool) → eqb p 0 ≡ x → eqb q 0 ≡ y → not (x && y) ≡ true → 1 ≤ p + q * highUnit
+    go true true f g h = absurd (false≢true h)
+    go true false f g h = let n = eqb-false q 0 g in omega arith
+    go false y f g h = let n = eqb-false p 0 f in omega arith
+
+some-payload : (p q : ℕ) → 1 ≤ p + q → not (eqb p 0 && eqb q 0) ≡ true
+some-payload zero zero some = absurd (omega arith)
+some-payload zero (suc q) some = rw (ne-eqb (suc q) 0 (omega arith))
+some-payload (suc p) q some = rw (ne-eqb (suc p) 0 (omega arith))
+
+words-made : (low high : ℕ) → isWeight low high ≡ true → (let w = payloadOf low + payloadOf high * highUnit in
+    (low ≡ weightWord (w % highUnit)) × (high ≡ highWord (w / highUnit)) × (1 ≤ w))
+words-made low high e =
+    let kinds = and-left (eqb (kindOf low) 6 && eqb (kindOf high) 12) (not (eqb (payloadOf low) 0 && eqb (payloadOf high) 0)) e in
+    let some = and-right (eqb (kindOf low) 6 && eqb (kindOf high) 12) (not (eqb (payloadOf low) 0 && eqb (payloadOf high) 0)) e in
+    let a = eqb-true (kindOf low) 6 (and-left (eqb (kindOf low) 6) (eqb (kindOf high) 12) kinds) in
+    let b = eqb-true (kindOf high) 12 (and-right (eqb (kindOf low) 6) (eqb (kindOf high) 12) kinds) in
+    (omega arith, omega arith, payload-positive (payloadOf low) (payloadOf high) some)
 
 -- a row that passes is the one with the weight that its words give, which is at least 1
 pub weight-made : (ws : List ℕ) → rowWeighs ws ≡ true → rawAt ws 0 ≡ weighing (rawAt ws 0) (weightIn (rawAt ws 0))
 unfolding rowWeighs rawAt weightIn
 weight-made ws e =
-    λ i. record { a = getD ws 0 0; b = getD ws 1 0; c = getD ws 2 0; d = getD ws 3 0; w = word-made (getD ws 4 0) e .0 i }
+    let made = words-made (getD ws 4 0) (getD ws 5 0) e in
+    λ i. record { a = getD ws 0 0; b = getD ws 1 0; c = getD ws 2 0; d = getD ws 3 0; low = made .0 i; high = made .1 i }
 
 pub weight-positive : (ws : List ℕ) → rowWeighs ws ≡ true → 1 ≤ weightIn (rawAt ws 0)
 unfolding rowWeighs rawAt weightIn
-weight-positive ws e = word-made (getD ws 4 0) e .1
+weight-positive ws e = words-made (getD ws 4 0) (getD ws 5 0) e .2
 
 pub weight-passes : (r : Raw) (w : ℕ) (ws : List ℕ) → 1 ≤ w → w ≤ maxWeight → rowWeighs (rawWords (weighing r w) ++ ws) ≡ true
 unfolding rowWeighs
 weight-passes r w ws h l =
-    both-true _ _ (eq-eqb (kindOf (weightWord w)) 6 (omega arith)) (le-leb 1 (payloadOf (weightWord w)) (omega arith))
+    let low : kindOf (weightWord (w % highUnit)) ≡ 6 = omega arith in
+    let high : kindOf (highWord (w / highUnit)) ≡ 12 = omega arith in
+    rw (eq-eqb (kindOf (weightWord (w % highUnit))) 6 low, eq-eqb (kindOf (highWord (w / highUnit))) 12 high)
+    (some-payload (payloadOf (weightWord (w % highUnit))) (payloadOf (highWord (w / highUnit))) (omega arith))
 
--- as the code tests: the kind, then a payload other than 0
+-- as the code tests: the two kinds, then whether both payloads are 0
 module _ (t : List ℕ) (at : ℕ) where
-  pub weight-other : (kindOf (getD t (at + 4) 0) ≡ 6 → ⊥) → false ≡ rowWeighs (drop at t)
-  unfolding rowWeighs
-  weight-other h = sym (rw (getD-drop at t 4 0, ne-eqb (kindOf (getD t (at + 4) 0)) 6 h))
+  abbrev low : ℕ
+  low = getD t (at + 4) 0
 
-  pub weight-test : kindOf (getD t (at + 4) 0) ≡ 6 → not (eqb (payloadOf (getD t (at + 4) 0)) 0) ≡ rowWeighs (drop at t)
+  abbrev high : ℕ
+  high = getD t (at + 5) 0
+
+  words-there : rowWeighs (drop at t) ≡ isWeight low high
   unfolding rowWeighs
-  weight-test h =
-      sym (rw (getD-drop at t 4 0, eq-eqb (kindOf (getD t (at + 4) 0)) 6 h) (above-0 (payloadOf (getD t (at + 4) 0))))
-    where
-      above-0 : (p : ℕ) → leb 1 p ≡ not (eqb p 0)
-      above-0 zero = refl
-      above-0 (suc p) = rw (le-leb 1 (suc p) (omega arith), ne-eqb (suc p) 0 (omega arith))
+  words-there = rw (getD-drop at t 4 0, getD-drop at t 5 0)
+
+  pub low-other : (kindOf low ≡ 6 → ⊥) → false ≡ rowWeighs (drop at t)
+  low-other h = sym (words-there ∙ rw (ne-eqb (kindOf low) 6 h))
+
+  module _ (h : kindOf low ≡ 6) where
+    pub high-other : (kindOf high ≡ 12 → ⊥) → false ≡ rowWeighs (drop at t)
+    high-other n = sym (words-there ∙ rw (eq-eqb (kindOf low) 6 h, ne-eqb (kindOf high) 12 n))
+
+    module _ (g : kindOf high ≡ 12) where
+      kinds-there : rowWeighs (drop at t) ≡ not (eqb (payloadOf low) 0 && eqb (payloadOf high) 0)
+      kinds-there = words-there ∙ rw (eq-eqb (kindOf low) 6 h, eq-eqb (kindOf high) 12 g)
+
+      pub both-0 : payloadOf low ≡ 0 → payloadOf high ≡ 0 → false ≡ rowWeighs (drop at t)
+      both-0 y z = sym (kinds-there ∙ rw (eq-eqb (payloadOf low) 0 y, eq-eqb (payloadOf high) 0 z))
+
+      pub not-both-0 : 1 ≤ payloadOf low + payloadOf high → true ≡ rowWeighs (drop at t)
+      not-both-0 s = sym (kinds-there ∙ some-payload (payloadOf low) (payloadOf high) s)
 
 -- ---- the sign words
 

@@ -1,14 +1,15 @@
 -- Words stored one by one: a row's words copied or cleared are one written part, and so are the sign words and the weight of a row.
-use Prim.Native.Nat.{ℕ, _+_, _*_, _≤_, _<_}
+use Prim.Native.Nat.{ℕ, suc, _+_, _*_, _/_, _%_, _≤_, _<_}
+use native.Mathlib.Nat.{add-suc}
 use native.Mathlib.Numerals.{add-one, add-two, add-three, add-four}
 use native.Mathlib.Omega.{arith}
-use mathlib.Core.Path.{_≡_, refl, sym, _∙_}
+use mathlib.Core.Path.{_≡_, refl, sym, ap, _∙_}
 use mathlib.Core.List.{List, [], _∷_, _++_, append-assoc}
 use lib.ListN.{length, getD, take, drop, set, replicate, getD-replicate, length-drop}
 use lib.Seq.{sets-eq, set-getD, getD-drop, getD-take, paste, paste-suc, drop-paste, take-all, length-take-le}
 use Rattle.clause.specs.declared.Clause.{Clause}
-use Rattle.words.specs.Layout.{signsWord, weightWord}
-use Rattle.rows.specs.Raw.{rowWidth, rawWords, rawAt, rawsIn, rowForm, Laid, Left, weighing, signWords, rawRow, reweighed}
+use Rattle.words.specs.Layout.{signsWord, weightWord, highWord}
+use Rattle.rows.specs.Raw.{rowWidth, highUnit, rawWords, rawAt, rawsIn, rowForm, Laid, Left, weighing, signWords, rawRow, reweighed}
 use Rattle.rows.proofs.Flat.{rowLaws, length-rawsFrom, raw-at}
 use Rattle.rows.proofs.FormTables.{row-replaced}
 
@@ -42,20 +43,24 @@ zero-at n i h = sym (getD-replicate n i 0 0 h)
 
 -- ---- the weight behind the sign words
 
-five-stored : (t : List ℕ) (at v₀ v₁ v₂ v₃ v₄ : ℕ) → at + 5 ≤ length t
-    → set (set (set (set (set t at v₀) (at + 1) v₁) (at + 2) v₂) (at + 3) v₃) (at + 4) v₄
-    ≡ take at t ++ ((v₀ ∷ v₁ ∷ v₂ ∷ v₃ ∷ v₄ ∷ []) ++ drop (at + 5) t)
-five-stored t at v₀ v₁ v₂ v₃ v₄ h =
-    rw (add-one at, add-two at, add-three at, add-four at) (sets-eq (v₀ ∷ v₁ ∷ v₂ ∷ v₃ ∷ v₄ ∷ []) t at h ∙ append-assoc (take at t) (v₀ ∷ v₁ ∷ v₂ ∷ v₃ ∷ v₄ ∷ []) (drop (at + 5) t))
+add-five : (n : ℕ) → n + 5 ≡ suc (suc (suc (suc (suc n))))
+add-five n = add-suc n 4 ∙ ap suc (add-four n)
+
+six-stored : (t : List ℕ) (at v₀ v₁ v₂ v₃ v₄ v₅ : ℕ) → at + 6 ≤ length t
+    → set (set (set (set (set (set t at v₀) (at + 1) v₁) (at + 2) v₂) (at + 3) v₃) (at + 4) v₄) (at + 5) v₅
+    ≡ take at t ++ ((v₀ ∷ v₁ ∷ v₂ ∷ v₃ ∷ v₄ ∷ v₅ ∷ []) ++ drop (at + 6) t)
+six-stored t at v₀ v₁ v₂ v₃ v₄ v₅ h =
+    rw (add-one at, add-two at, add-three at, add-four at, add-five at)
+    (sets-eq (v₀ ∷ v₁ ∷ v₂ ∷ v₃ ∷ v₄ ∷ v₅ ∷ []) t at h ∙ append-assoc (take at t) (v₀ ∷ v₁ ∷ v₂ ∷ v₃ ∷ v₄ ∷ v₅ ∷ []) (drop (at + 6) t))
 
 -- the sign words stay
-pub weight-stored : (t : List ℕ) (at weight v : ℕ) → at + rowWidth ≤ length t → v ≡ weightWord weight
-    → set t (at + 4) v ≡ take at t ++ (rawWords (weighing (rawAt t at) weight) ++ drop (at + rowWidth) t)
+pub weight-stored : (t : List ℕ) (at weight v u : ℕ) → at + rowWidth ≤ length t → v ≡ weightWord (weight % highUnit) → u ≡ highWord (weight / highUnit)
+    → set (set t (at + 4) v) (at + 5) u ≡ take at t ++ (rawWords (weighing (rawAt t at) weight) ++ drop (at + rowWidth) t)
 unfolding rawAt
-weight-stored t at weight v h e =
-    rw e
+weight-stored t at weight v u h e f =
+    rw (e, f)
     (rw (set-getD t at 0, set-getD t (at + 1) 0, set-getD t (at + 2) 0, set-getD t (at + 3) 0) at
-    (five-stored t at (getD t at 0) (getD t (at + 1) 0) (getD t (at + 2) 0) (getD t (at + 3) 0) (weightWord weight) h))
+    (six-stored t at (getD t at 0) (getD t (at + 1) 0) (getD t (at + 2) 0) (getD t (at + 3) 0) (weightWord (weight % highUnit)) (highWord (weight / highUnit)) h))
 
 pub row-reweighed : (t t′ : List ℕ) (base count k weight : ℕ) → Laid t base (rawsIn t base count) → k < count
     → t′ ≡ take (base + rowWidth * k) t ++ (rawWords (weighing (rawAt t (base + rowWidth * k)) weight) ++ drop (base + rowWidth * k + rowWidth) t)

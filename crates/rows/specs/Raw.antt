@@ -1,11 +1,11 @@
--- Raw rows of the form that every table has: four sign words and the weight, of any content. The width, the greatest weight,
+-- Raw rows of the form that every table has: four sign words and the weight's two words, of any content. The width, the greatest weight,
 -- and how a weight lies in a row's words and is told from other words stand here alone.
-use Prim.Native.Nat.{ℕ, zero, suc, _+_, _%_}
-use mathlib.Core.Bool.{Bool, _&&_, cond}
+use Prim.Native.Nat.{ℕ, zero, suc, _+_, _*_, _/_, _%_}
+use mathlib.Core.Bool.{Bool, not, _&&_, cond}
 use mathlib.Core.List.{List, [], _∷_}
 use lib.ListN.{getD, set, drop}
-use lib.Dec.{eqb, leb}
-use Rattle.words.specs.Layout.{kindOf, payloadOf, signsWord, weightWord}
+use lib.Dec.{eqb}
+use Rattle.words.specs.Layout.{kindOf, payloadOf, signsWord, weightWord, highWord}
 use Rattle.clause.specs.declared.Clause.{Clause}
 use Rattle.rows.specs.declared.Found.{Found}
 use Rattle.rows.specs.declared.Found.the-variants.{At, Missing}
@@ -13,26 +13,38 @@ use Rattle.rows.specs.Form.{Form, rawsFromIn, LaidIn, LeftIn}
 
 -- words to a row, and the greatest weight
 abbrev pub rowWidth : ℕ
-rowWidth = 5
+rowWidth = 6
 
 abbrev pub maxWeight : ℕ
-maxWeight = 268435455
+maxWeight = 72057594037927935
 
--- four sign words and a weight word
+-- a weight's low word has the 28 bits below this, its high word the 28 from it on
+abbrev pub highUnit : ℕ
+highUnit = 268435456
+
+-- four sign words, the low and the high word of the weight
 pub record Raw : Type 0 where
   pub a : ℕ
   pub b : ℕ
   pub c : ℕ
   pub d : ℕ
-  pub w : ℕ
+  pub low : ℕ
+  pub high : ℕ
 
 -- the words of a raw row, and the raw row whose words start at a place
 abbrev pub rawWords : Raw → List ℕ
-rawWords r = r .a ∷ r .b ∷ r .c ∷ r .d ∷ r .w ∷ []
+rawWords r = r .a ∷ r .b ∷ r .c ∷ r .d ∷ r .low ∷ r .high ∷ []
 
 unfoldable pub rawAt : List ℕ → ℕ → Raw
 rawAt t at =
-    record { a = getD t at 0; b = getD t (at + 1) 0; c = getD t (at + 2) 0; d = getD t (at + 3) 0; w = getD t (at + 4) 0 }
+    record {
+      a = getD t at 0;
+      b = getD t (at + 1) 0;
+      c = getD t (at + 2) 0;
+      d = getD t (at + 3) 0;
+      low = getD t (at + 4) 0;
+      high = getD t (at + 5) 0;
+    }
 
 abbrev pub rowForm : Form
 rowForm = record { Raw = Raw; width = rowWidth; words = rawWords; read = rawAt }
@@ -41,23 +53,24 @@ rowForm = record { Raw = Raw; width = rowWidth; words = rawWords; read = rawAt }
 
 -- the weight that a raw row's words give, whatever their kinds
 unfoldable pub weightIn : Raw → ℕ
-weightIn r = payloadOf (r .w)
+weightIn r = payloadOf (r .low) + payloadOf (r .high) * highUnit
 
--- a weight of at least 1
-abbrev pub isWeight : ℕ → Bool
-isWeight w = eqb (kindOf w) 6 && leb 1 (payloadOf w)
+-- the two words of a weight of at least 1 (document 02: "not both 0")
+abbrev pub isWeight : ℕ → ℕ → Bool
+isWeight low high = eqb (kindOf low) 6 && eqb (kindOf high) 12 && not (eqb (payloadOf low) 0 && eqb (payloadOf high) 0)
 
 -- the row in front of the words has a weight of at least 1 behind its sign words
 unfoldable pub rowWeighs : List ℕ → Bool
-rowWeighs ws = isWeight (getD ws 4 0)
+rowWeighs ws = isWeight (getD ws 4 0) (getD ws 5 0)
 
 -- the raw row with this weight in place of its own
 abbrev pub weighing : Raw → ℕ → Raw
-weighing r weight = record { a = r .a; b = r .b; c = r .c; d = r .d; w = weightWord weight }
+weighing r weight =
+    record { a = r .a; b = r .b; c = r .c; d = r .d; low = weightWord (weight % highUnit); high = highWord (weight / highUnit) }
 
 -- four sign words, with no weight yet
 abbrev pub signWords : ℕ → ℕ → ℕ → ℕ → Raw
-signWords a b c d = record { a = a; b = b; c = c; d = d; w = 0 }
+signWords a b c d = record { a = a; b = b; c = c; d = d; low = 0; high = 0 }
 
 -- the raw row of a clause and a weight
 abbrev pub rawRow : Clause → ℕ → Raw
@@ -70,7 +83,7 @@ clauseIn r = record { a = r .a % 16777216; b = r .b % 16777216; c = r .c % 16777
 -- ---- for inner contracts
 
 abbrev pub noRaw : Raw
-noRaw = record { a = 0; b = 0; c = 0; d = 0; w = 0 }
+noRaw = record { a = 0; b = 0; c = 0; d = 0; low = 0; high = 0 }
 
 abbrev pub rawsFrom : ℕ → List ℕ → List Raw
 rawsFrom k ws = rawsFromIn rowForm k ws

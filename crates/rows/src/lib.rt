@@ -9,9 +9,12 @@ ghost use Rattle.rows.specs.Adding.{added, Addable};
 use clause::Clause;
 
 // Words to a row, and the greatest weight.
-pub const WIDTH: usize = 5;
+pub const WIDTH: usize = 6;
 
-pub const MAX_WEIGHT: u64 = 268435455;
+pub const MAX_WEIGHT: u64 = 72057594037927935;
+
+// A weight's low word has the 28 bits below this, its high word the 28 from it on.
+const HIGH_UNIT: u64 = 268435456;
 
 // Where a row stands.
 pub enum Found {
@@ -39,7 +42,9 @@ pub fn weight_of(t: &[u32], base: usize, k: usize) -> u64
     ensures { λ r. ⌜ (r ≡ weightIn (rawAt (now (t .entry)) (base + rowWidth * k))) × (r ≤ maxWeight) ⌝ }
 {
     let at = base + WIDTH * k;
-    words::payload(t[at + 4]) as u64
+    let low = words::payload(t[at + 4]) as u64;
+    let high = words::payload(t[at + 5]) as u64;
+    low + high * HIGH_UNIT
 }
 
 // Behind the sign words of the row at this place stands a weight of at least 1.
@@ -47,11 +52,18 @@ pub fn weight_there(t: &[u32], at: usize) -> bool
     requires { ⌜ at + rowWidth ≤ length (now t) ⌝ }
     ensures { λ r. ⌜ r ≡ rowWeighs (drop at (now (t .entry))) ⌝ }
 {
-    let word = t[at + 4];
-    if words::kind(word) != 6 {
+    let low = t[at + 4];
+    let high = t[at + 5];
+    if words::kind(low) != 6 {
         return false;
     }
-    words::payload(word) != 0
+    if words::kind(high) != 12 {
+        return false;
+    }
+    if words::payload(low) + words::payload(high) == 0 {
+        return false;
+    }
+    true
 }
 
 // The place of a sign word that few rows share: the first with a literal.
@@ -120,7 +132,8 @@ fn write_weight(t: &mut [u32], at: usize, weight: u64)
     requires { ⌜ (at + rowWidth ≤ length (now t)) × (weight ≤ maxWeight) ⌝ }
     ensures { λ r. ⌜ now (t .exit) ≡ take at (now (t .entry)) ++ (rawWords (weighing (rawAt (now (t .entry)) at) weight) ++ drop (at + rowWidth) (now (t .entry))) ⌝ }
 {
-    t[at + 4] = words::weight(weight as u32);
+    t[at + 4] = words::weight((weight % HIGH_UNIT) as u32);
+    t[at + 5] = words::high((weight / HIGH_UNIT) as u32);
 }
 
 // The row writer: a row's words at the front of the part it is lent.

@@ -3,7 +3,7 @@ use Prim.Native.Nat.{ℕ, zero, suc, _+_, _-_, _*_, _/_, _%_, _<_}
 use native.Mathlib.Omega.{arith}
 use mathlib.Core.Path.{_≡_, refl}
 use Rattle.words.specs.declared.Word.{Word}
-use Rattle.words.specs.declared.Word.the-variants.{Head, Size, Binding, Cost, Signs, Weight, Step, Easting, Northing, Count, Unknown}
+use Rattle.words.specs.declared.Word.the-variants.{Head, Size, Binding, Cost, Signs, Weight, Step, Easting, Northing, Count, Forbidden, High, Unknown}
 use Rattle.words.specs.Layout.{kindOf, payloadOf, headWord, sizeWord, bindingWord, variableIn, valueIn, costWord, signsWord, indexIn, blockIn, weightWord, stepWord, stepVariableIn, firstRowIn, secondRowIn, countWord}
 use Rattle.words.specs.Meaning.{ofKind, wordOf}
 use Rattle.words.proofs.Reading.{by-parts, unknown-else}
@@ -20,6 +20,8 @@ data Says : ℕ → ℕ → Word → Type 0 where
   says-easting : {p : ℕ} → Says 8 p (Easting p)
   says-northing : {p : ℕ} → Says 9 p (Northing p)
   says-count : {p : ℕ} → Says 10 p (Count p)
+  says-forbidden : {p : ℕ} → Says 11 p (Forbidden p)
+  says-high : {p : ℕ} → Says 12 p (High p)
   says-unknown : {k p : ℕ} → Says k p Unknown
 
 says : (k p : ℕ) → Says k p (ofKind k p)
@@ -35,9 +37,11 @@ says (suc (suc (suc (suc (suc (suc (suc zero))))))) p = says-step
 says (suc (suc (suc (suc (suc (suc (suc (suc zero)))))))) p = says-easting
 says (suc (suc (suc (suc (suc (suc (suc (suc (suc zero))))))))) p = says-northing
 says (suc (suc (suc (suc (suc (suc (suc (suc (suc (suc zero)))))))))) p = says-count
-says (suc (suc (suc (suc (suc (suc (suc (suc (suc (suc (suc k))))))))))) p =
-    let K : ℕ = suc (suc (suc (suc (suc (suc (suc (suc (suc (suc (suc k)))))))))) in
-    rw (unknown-else K p (omega arith) (omega arith) (omega arith) (omega arith) (omega arith) (omega arith) (omega arith) (omega arith) (omega arith) (omega arith)) says-unknown
+says (suc (suc (suc (suc (suc (suc (suc (suc (suc (suc (suc zero))))))))))) p = says-forbidden
+says (suc (suc (suc (suc (suc (suc (suc (suc (suc (suc (suc (suc zero)))))))))))) p = says-high
+says (suc (suc (suc (suc (suc (suc (suc (suc (suc (suc (suc (suc (suc k))))))))))))) p =
+    let K : ℕ = suc (suc (suc (suc (suc (suc (suc (suc (suc (suc (suc (suc (suc k)))))))))))) in
+    rw (unknown-else K p (omega arith) (omega arith) (omega arith) (omega arith) (omega arith) (omega arith) (omega arith) (omega arith) (omega arith) (omega arith) (omega arith) (omega arith)) says-unknown
 
 -- what a word that is read as W says by its kind and payload
 said : (w : ℕ) (W : Word) → wordOf w ≡ W → Says (kindOf w) (payloadOf w) W
@@ -148,3 +152,9 @@ count-kind w k e = count-parts (said w (Count k) e)
 
 pub count-inverse : (w k : ℕ) → wordOf w ≡ Count k → (w ≡ countWord k) × (k < 268435456)
 count-inverse w k e = let s = count-kind w k e in whole w 10 k (s .0) (s .1)
+
+forbidden-parts : {k p q : ℕ} → Says k p (Forbidden q) → (k ≡ 11) × (p ≡ q)
+forbidden-parts says-forbidden = (refl, refl)
+
+pub forbidden-kind : (w p : ℕ) → wordOf w ≡ Forbidden p → (kindOf w ≡ 11) × (payloadOf w ≡ p)
+forbidden-kind w p e = forbidden-parts (said w (Forbidden p) e)

@@ -16,11 +16,11 @@ by-parts w k p e f = ap₂ ofKind e f
 pub of-kind : (k p : ℕ) → p < 268435456 → wordOf (k * 268435456 + p) ≡ ofKind k p
 of-kind k p h = sym (by-parts (k * 268435456 + p) k p (sym (digits-div k h)) (sym (digits-mod k h)))
 
--- a kind that is none of the ten is unknown
-pub unknown-else : (k p : ℕ) → (k ≡ 1 → ⊥) → (k ≡ 2 → ⊥) → (k ≡ 3 → ⊥) → (k ≡ 4 → ⊥) → (k ≡ 5 → ⊥) → (k ≡ 6 → ⊥) → (k ≡ 7 → ⊥) → (k ≡ 8 → ⊥) → (k ≡ 9 → ⊥) → (k ≡ 10 → ⊥) → ofKind k p ≡ Unknown
+-- a kind that is none of the twelve is unknown
+pub unknown-else : (k p : ℕ) → (k ≡ 1 → ⊥) → (k ≡ 2 → ⊥) → (k ≡ 3 → ⊥) → (k ≡ 4 → ⊥) → (k ≡ 5 → ⊥) → (k ≡ 6 → ⊥) → (k ≡ 7 → ⊥) → (k ≡ 8 → ⊥) → (k ≡ 9 → ⊥) → (k ≡ 10 → ⊥) → (k ≡ 11 → ⊥) → (k ≡ 12 → ⊥) → ofKind k p ≡ Unknown
 unfolding ofKind
-unknown-else k p n1 n2 n3 n4 n5 n6 n7 n8 n9 n10 =
-    rw (ne-eqb k 1 n1, ne-eqb k 2 n2, ne-eqb k 3 n3, ne-eqb k 4 n4, ne-eqb k 5 n5, ne-eqb k 6 n6, ne-eqb k 7 n7, ne-eqb k 8 n8, ne-eqb k 9 n9, ne-eqb k 10 n10)
+unknown-else k p n1 n2 n3 n4 n5 n6 n7 n8 n9 n10 n11 n12 =
+    rw (ne-eqb k 1 n1, ne-eqb k 2 n2, ne-eqb k 3 n3, ne-eqb k 4 n4, ne-eqb k 5 n5, ne-eqb k 6 n6, ne-eqb k 7 n7, ne-eqb k 8 n8, ne-eqb k 9 n9, ne-eqb k 10 n10, ne-eqb k 11 n11, ne-eqb k 12 n12)
 
 -- ---- each kind's word
 

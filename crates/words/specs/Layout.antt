@@ -52,7 +52,7 @@ indexIn w = payloadOf w / 16777216
 abbrev pub blockIn : ℕ → ℕ
 blockIn w = payloadOf w % 16777216
 
--- kind 6: a row's weight
+-- kind 6: the low 28 bits of a row's weight
 abbrev pub weightWord : ℕ → ℕ
 weightWord w = 6 * 268435456 + w
 
@@ -84,3 +84,11 @@ northingWord o = 9 * 268435456 + coordinatePayload o
 -- kind 10: a row count
 abbrev pub countWord : ℕ → ℕ
 countWord k = 10 * 268435456 + k
+
+-- kind 11: in place of an entry's cost, it forbids the combination; its payload is 0
+abbrev pub forbiddenWord : ℕ
+forbiddenWord = 11 * 268435456
+
+-- kind 12: the high 28 bits of a row's weight
+abbrev pub highWord : ℕ → ℕ
+highWord w = 12 * 268435456 + w

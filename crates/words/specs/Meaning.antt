@@ -3,7 +3,7 @@ use Prim.Native.Nat.{ℕ, _+_, _-_, _/_, _%_}
 use mathlib.Core.Bool.{cond}
 use lib.Dec.{eqb, leb}
 use Rattle.words.specs.declared.Word.{Word}
-use Rattle.words.specs.declared.Word.the-variants.{Head, Size, Binding, Cost, Signs, Weight, Step, Easting, Northing, Count, Unknown}
+use Rattle.words.specs.declared.Word.the-variants.{Head, Size, Binding, Cost, Signs, Weight, Step, Easting, Northing, Count, Forbidden, High, Unknown}
 use Rattle.words.specs.declared.Coordinate.{Coordinate}
 use Rattle.words.specs.declared.Coordinate.the-variants.{At, Outside}
 use Rattle.words.specs.Layout.{kindOf, payloadOf}
@@ -21,7 +21,9 @@ ofKind k p =
     (cond (eqb k 8) (Easting p)
     (cond (eqb k 9) (Northing p)
     (cond (eqb k 10) (Count p)
-    Unknown)))))))))
+    (cond (eqb k 11) (Forbidden p)
+    (cond (eqb k 12) (High p)
+    Unknown)))))))))))
 
 unfoldable pub wordOf : ℕ → Word
 unfolding ofKind

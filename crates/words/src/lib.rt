@@ -1,7 +1,7 @@
 // The words of document 01: what a word says by its kind, the words that the planner writes, and three signs in one word.
 ghost use mathlib.Core.Path.{_≡_};
 ghost use Prim.Native.Nat.{_+_, _*_, _<_, _≤_, _/_, _%_};
-ghost use Rattle.words.specs.Layout.{kindOf, payloadOf, headWord, sizeWord, bindingWord, costWord, packed, signsWord, weightWord, stepWord, coordinatePayload, eastingWord, northingWord, countWord};
+ghost use Rattle.words.specs.Layout.{kindOf, payloadOf, headWord, sizeWord, bindingWord, costWord, packed, signsWord, weightWord, stepWord, coordinatePayload, eastingWord, northingWord, countWord, highWord};
 ghost use Rattle.words.specs.Meaning.{wordOf, coordinateOf};
 
 // A word by its kind, with its fields. A payload with a set unnamed bit has a field out of range.
@@ -16,6 +16,8 @@ pub enum Word {
     Easting(u32),
     Northing(u32),
     Count(u32),
+    Forbidden(u32),
+    High(u32),
     Unknown,
 }
 
@@ -53,7 +55,9 @@ pub fn read(w: u32) -> Word
         8 => Word::Easting(p),
         9 => Word::Northing(p),
         10 => Word::Count(p),
-        0 | 11..=4294967295 => Word::Unknown,
+        11 => Word::Forbidden(p),
+        12 => Word::High(p),
+        0 | 13..=4294967295 => Word::Unknown,
     }
 }
 
@@ -157,4 +161,11 @@ pub fn count(k: u32) -> u32
     ensures { λ r. ⌜ r ≡ countWord k ⌝ }
 {
     2684354560 + k
+}
+
+pub fn high(w: u32) -> u32
+    requires { ⌜ w < 268435456 ⌝ }
+    ensures { λ r. ⌜ r ≡ highWord w ⌝ }
+{
+    3221225472 + w
 }

@@ -1,7 +1,7 @@
 -- `plan` meets its contract: the table's test, the target's length and whether a pair is left decide as in the definition.
 use native.Mathlib.Omega.{arith}
 use borrow.Author.Needs.{needs}
-use Rattle.assignment.proofs.Planning.{not-a-table, told, too-short, pair-left, ready, rebuilt-all}
+use Rattle.assignment.proofs.Planning.{not-a-table, told, variables-few, may-weigh, too-short, pair-left, forbidden, ready, rebuilt-all}
 use Rattle.assignment.proofs.plan.Statement.{statement}
 use Rattle.assignment.proofs.plan.Tie as tie
 
@@ -41,32 +41,56 @@ returns-3 c =
     let g = called .before .before .before .args in
     pair-left (g .t .now) _ (called .check .ensures) _ (shaped .checked .given .1) (g .target .now) (omega arith) _ (asked .pair-left .ensures) (c .if2 .taken)
 
+add-empty-weight : tie.Need-add-empty-weight
+add-empty-weight c =
+    let shaped = c .before .before .before .before in
+    let called = shaped .before .before in
+    omega (arith, variables-few (called .before .before .before .args .t .now) _ (called .check .ensures) _ (shaped .checked .given .1))
+
+empty-weight-requires : tie.Need-empty-weight-requires
+empty-weight-requires c κs =
+    let shaped = c .before .before .before .before in
+    let called = shaped .before .before in
+    may-weigh (called .before .before .before .args .t .now) _ (called .check .ensures) _ (shaped .checked .given .1)
+
+returns-4 : tie.Need-returns-4
+returns-4 c =
+    let weighed = c .before in
+    let asked = weighed .before .before in
+    let shaped = asked .before .before .before in
+    let called = shaped .before .before in
+    let g = called .before .before .before .args in
+    forbidden (g .t .now) _ (called .check .ensures) _ (shaped .checked .given .1) (g .target .now) (omega arith) _ (asked .pair-left .ensures)
+    (weighed .before .if2 .left) _ (weighed .empty-weight .ensures) (omega arith)
+
 empty-requires : tie.Need-empty-requires
 empty-requires c κs = search needs
 
 rebuild-requires : tie.Need-rebuild-requires
 rebuild-requires c κs =
     let emptied = c .before in
-    let asked = emptied .before .before in
+    let weighed = emptied .before .before in
+    let asked = weighed .before .before in
     let shaped = asked .before .before .before in
     let called = shaped .before .before in
     let g = called .before .before .before .args in
     ready (g .t .now) _ (called .check .ensures) _ (shaped .checked .given .1) (g .target .now) (omega arith) _ (asked .pair-left .ensures)
-    (emptied .before .if2 .left) _ (emptied .empty .ensures)
+    (weighed .before .if2 .left) _ (emptied .empty .ensures)
 
 same-length : tie.Need-same-length
 same-length c = search needs
 
-returns-4 : tie.Need-returns-4
-returns-4 c =
+returns-5 : tie.Need-returns-5
+returns-5 c =
     let rebuilt = c .before .before in
     let emptied = rebuilt .before .before in
-    let asked = emptied .before .before in
+    let weighed = emptied .before .before in
+    let asked = weighed .before .before in
     let shaped = asked .before .before .before in
     let called = shaped .before .before in
     let g = called .before .before .before .args in
     rebuilt-all (g .t .now) _ (called .check .ensures) _ (shaped .checked .given .1) (g .target .now) (omega arith) _ (asked .pair-left .ensures)
-    (emptied .before .if2 .left) _ (rebuilt .rebuild .ensures)
+    (weighed .before .if2 .left) _ (weighed .empty-weight .ensures) (omega arith) _ (rebuilt .rebuild .ensures)
 
 pub plan-spec : {M : Type 1} → statement M
 plan-spec =
@@ -79,7 +103,11 @@ plan-spec =
     returns-2
     pair-left-requires
     returns-3
+    (λ c. search needs)
+    add-empty-weight
+    empty-weight-requires
+    returns-4
     empty-requires
     rebuild-requires
     same-length
-    returns-4)
+    returns-5)

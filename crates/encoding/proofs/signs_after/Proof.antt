@@ -3,8 +3,9 @@ use borrow.Author.Needs.{needs}
 use native.Mathlib.Omega.{arith}
 use mathlib.Core.Path.{sym, _∙_}
 use Rattle.words.proofs.Others.{no-entry}
+use Rattle.fields.proofs.Closing.{closes-cost, closes-forbidden}
 use Rattle.clause.specs.Packed.{signsOf}
-use Rattle.encoding.proofs.Looking.{value-bit, proper-binding, binding-signs, cost-signs, other-signs}
+use Rattle.encoding.proofs.Looking.{value-bit, proper-binding, binding-signs, closing-signs, other-signs}
 use Rattle.encoding.proofs.signs_after.Statement.{statement}
 use Rattle.encoding.proofs.signs_after.Tie as tie
 
@@ -38,10 +39,15 @@ returns c =
     (c .replaced .ensures)
 
 returns-2 : tie.Need-returns-2
-returns-2 c = cost-signs _ _ _ _ _ (sym (c .before .before .before .read .ensures) ∙ c .before .enum-told .given .1) (c .empty .ensures)
+returns-2 c =
+    closing-signs _ _ _ _ (closes-cost _ _ (sym (c .before .before .before .read .ensures) ∙ c .before .enum-told .given .1)) (c .empty .ensures)
 
 returns-3 : tie.Need-returns-3
-returns-3 c = other-signs _ _ _ (c .before .before .pre .0) (no-entry _ _ (c .before .read .ensures) (c .match .keys3))
+returns-3 c =
+    closing-signs _ _ _ _ (closes-forbidden _ _ (sym (c .before .before .before .read .ensures) ∙ c .before .enum-told2 .given .1)) (c .empty2 .ensures)
+
+returns-4 : tie.Need-returns-4
+returns-4 c = other-signs _ _ _ (c .before .before .pre .0) (no-entry _ _ (c .before .read .ensures) (c .match .keys4))
 
 pub signs-after-spec : {M : Type 1} → statement M
 signs-after-spec =
@@ -55,6 +61,9 @@ signs-after-spec =
     replaced-requires
     (λ c. search needs)
     (λ c κs. search needs)
+    (λ c. search needs)
+    (λ c κs. search needs)
     returns
     returns-2
-    returns-3)
+    returns-3
+    returns-4)

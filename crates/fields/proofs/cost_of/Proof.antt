@@ -2,15 +2,19 @@
 use borrow.Author.Needs.{needs}
 use mathlib.Core.Path.{sym, _∙_}
 use Rattle.words.proofs.Others.{no-cost}
-use Rattle.fields.proofs.Costs.{cost-none, cost-some}
+use Rattle.fields.proofs.Costs.{cost-none, cost-some, cost-forbidden}
 use Rattle.fields.proofs.cost_of.Statement.{statement}
 use Rattle.fields.proofs.cost_of.Tie as tie
 
 returns : tie.Need-returns
-returns c = cost-none _ (no-cost _ _ (c .before .read .ensures) (c .match .keys2))
+returns c = cost-some _ _ (sym (c .before .before .before .read .ensures) ∙ c .before .word .given .1)
 
 returns-2 : tie.Need-returns-2
-returns-2 c = cost-some _ _ (sym (c .before .before .before .read .ensures) ∙ c .before .c .given .1)
+returns-2 c = cost-forbidden _ _ (sym (c .before .before .read .ensures) ∙ c .enum-told .given .1)
+
+returns-3 : tie.Need-returns-3
+returns-3 c = cost-none _ (no-cost _ _ (c .before .read .ensures) (c .match .keys3))
 
 pub cost-of-spec : {M : Type 1} → statement M
-cost-of-spec = tie.close (tie.spec (λ c κs. search needs) (λ c. search needs) returns returns-2)
+cost-of-spec =
+    tie.close (tie.spec (λ c κs. search needs) (λ c. search needs) (λ c. search needs) returns returns-2 returns-3)

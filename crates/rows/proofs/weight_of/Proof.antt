@@ -1,4 +1,4 @@
--- `weight_of` meets its contract: it answers the payload of the weight word.
+-- `weight_of` meets its contract: it answers the payloads of the low and the high word as one number.
 use native.Mathlib.Omega.{arith}
 use borrow.Author.Needs.{needs}
 use Rattle.rows.specs.Raw.{rawAt, weightIn}
@@ -7,7 +7,7 @@ use Rattle.rows.proofs.weight_of.Tie as tie
 
 returns : tie.Need-returns
 unfolding rawAt weightIn
-returns c = (c .payload .ensures .0, omega arith)
+returns c = (omega arith, omega arith)
 
 pub weight-of-spec : {M : Type 1} → statement M
 weight-of-spec =
@@ -19,5 +19,12 @@ weight-of-spec =
     (λ c. search needs)
     (λ c. search needs)
     (λ c κs. search needs)
+    (λ c. search needs)
+    (λ c. search needs)
+    (λ c. search needs)
+    (λ c. search needs)
+    (λ c κs. search needs)
+    (λ c. search needs)
+    (λ c. search needs)
     (λ c. search needs)
     returns)

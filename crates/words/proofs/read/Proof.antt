@@ -49,13 +49,21 @@ returns-10 c = by-parts _ 10 (c .before .payload .result) (omega arith) (c .befo
 
 returns-11 : tie.Need-returns-11
 unfolding ofKind
-returns-11 c = by-parts _ 0 (c .before .payload .result) (omega arith) (c .before .payload .ensures .0)
+returns-11 c = by-parts _ 11 (c .before .payload .result) (omega arith) (c .before .payload .ensures .0)
 
 returns-12 : tie.Need-returns-12
 unfolding ofKind
-returns-12 c =
+returns-12 c = by-parts _ 12 (c .before .payload .result) (omega arith) (c .before .payload .ensures .0)
+
+returns-13 : tie.Need-returns-13
+unfolding ofKind
+returns-13 c = by-parts _ 0 (c .before .payload .result) (omega arith) (c .before .payload .ensures .0)
+
+returns-14 : tie.Need-returns-14
+unfolding ofKind
+returns-14 c =
     let r = c .match .rest .0 in
-    sym (unknown-else _ (c .before .payload .result) (r .0 .0 .0 .0 .0 .0 .0 .0 .0 .1) (r .0 .0 .0 .0 .0 .0 .0 .0 .1) (r .0 .0 .0 .0 .0 .0 .0 .1) (r .0 .0 .0 .0 .0 .0 .1) (r .0 .0 .0 .0 .0 .1) (r .0 .0 .0 .0 .1) (r .0 .0 .0 .1) (r .0 .0 .1) (r .0 .1) (r .1)) ∙
+    sym (unknown-else _ (c .before .payload .result) (r .0 .0 .0 .0 .0 .0 .0 .0 .0 .0 .0 .1) (r .0 .0 .0 .0 .0 .0 .0 .0 .0 .0 .1) (r .0 .0 .0 .0 .0 .0 .0 .0 .0 .1) (r .0 .0 .0 .0 .0 .0 .0 .0 .1) (r .0 .0 .0 .0 .0 .0 .0 .1) (r .0 .0 .0 .0 .0 .0 .1) (r .0 .0 .0 .0 .0 .1) (r .0 .0 .0 .0 .1) (r .0 .0 .0 .1) (r .0 .0 .1) (r .0 .1) (r .1)) ∙
     by-parts _ (c .before .before .kind .result) (c .before .payload .result) (c .before .before .kind .ensures .0) (c .before .payload .ensures .0)
 
 pub read-spec : {M : Type 1} → statement M
@@ -75,4 +83,6 @@ read-spec =
     returns-9
     returns-10
     returns-11
-    returns-12)
+    returns-12
+    returns-13
+    returns-14)
