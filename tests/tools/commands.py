@@ -5,14 +5,14 @@ import subprocess
 
 from checks import TOOL
 from examples import EXAMPLES, content
-from reference.fields import as_bytes, sheet
+from reference.fields import as_bytes, forbidden, sheet
 from sheets.usage import USAGE
 from text_faults import UNKNOWN
 
 # Every kind of line as it is written back, with a place left of and below the mark.
 PLACES = [[(0, 0)], [(300, 400), (-5, -1_000_000)]]
-ENTRIES = [([(1, 0)], 9), ([(0, 0), (1, 1)], 12), ([], 5), ([(1, 1)], 65_535), ([], 65_535),
-           ([(0, 0), (1, 0)], 65_535), ([(1, 0)], 9)]
+ENTRIES = [([(1, 0)], 9), ([(0, 0), (1, 1)], 12), ([], 5), ([(1, 1)], 65_535), ([], 65_535), ([(0, 0), (1, 0)], 65_535),
+           forbidden((1, 1)), forbidden((0, 0), (1, 0)), forbidden(), ([(1, 0)], 9)]
 TEXT = b"""station 0
   spot 0 at 0.00 0.00
 station 1
@@ -21,9 +21,12 @@ station 1
 cost 9 at 1/0
 cost 12 at 0/0 1/1
 cost 5
-forbidden 1/1
+cost 65535 at 1/1
 cost 65535
 cost 65535 at 0/0 1/0
+forbidden 1/1
+forbidden 0/0 1/0
+forbidden
 cost 9 at 1/0
 """
 

@@ -1,10 +1,14 @@
-"""The examples: their words made anew, and their plans anew by the reference program; the season of all three and its figures."""
+"""The examples: their words made anew, and their plans anew by the reference program; the seasons of them and their figures."""
 
-from checks import ROOT
-from reference import printed_plan
+from checks import ROOT, called
+from reference import printed_plan, season_line
 
 EXAMPLES = ROOT / "examples"
+README = ROOT / "README.md"
+# Those that are planned, and the one whose every plan has a forbidden combination.
 NAMES = ["corner", "headland", "terraces"]
+FORBIDDEN = "culvert"
+ALL = sorted([*NAMES, FORBIDDEN])
 
 # The printed plan of the small field that document 01 works out.
 CORNER_PLAN = b"PLAN\nCOST 10\nSTEPS 1\n0 0 0\n1 1 10\n"
@@ -12,11 +16,12 @@ CORNER_PLAN = b"PLAN\nCOST 10\nSTEPS 1\n0 0 0\n1 1 10\n"
 
 def run(checks):
     for ending in ["txt", "sheet", "plan"]:
-        checks.same(f"examples/*.{ending}", sorted(path.stem for path in EXAMPLES.glob(f"*.{ending}")), NAMES)
-    for name in NAMES:
+        checks.same(f"examples/*.{ending}", sorted(path.stem for path in EXAMPLES.glob(f"*.{ending}")), ALL)
+    for name in ALL:
         check_example(checks, name)
     checks.same("examples/corner.plan", content("corner.plan"), CORNER_PLAN)
     check_season(checks)
+    check_shown_season(checks)
 
 
 def content(name):
@@ -27,14 +32,23 @@ def check_example(checks, name):
     sheet, plan = content(f"{name}.sheet"), content(f"{name}.plan")
     checks.answers(["words", f"examples/{name}.txt"], b"", sheet)
     checks.same(f"the plan of examples/{name}.sheet", printed_plan(sheet), plan)
-    checks.same(f"the first line of examples/{name}.plan", plan.split(b"\n")[0], b"PLAN")
+    checks.same(f"the first line of examples/{name}.plan", plan.split(b"\n")[0], b"REFUSED 15" if name == FORBIDDEN else b"PLAN")
 
 
 def check_season(checks):
-    """The season of the three examples, none of which is refused, and the figures that their plans come to."""
+    """The season of the three examples that are planned, and the figures that their plans come to."""
     for ending in ["season", "figures"]:
         checks.same(f"examples/*.{ending}", [path.stem for path in EXAMPLES.glob(f"*.{ending}")], ["three"])
     checks.answers(["season", "pack", *(f"examples/{name}.txt" for name in NAMES)], b"", content("three.season"))
     costs = [int(content(f"{name}.plan").split()[2]) for name in NAMES]
-    figures = [len(NAMES), *[0] * 9, sum(costs), max(costs), costs.index(max(costs)) + 1]
+    figures = [len(NAMES), *[0] * 10, sum(costs), max(costs), costs.index(max(costs)) + 1]
     checks.same("examples/three.figures", content("three.figures").decode(), " ".join(map(str, figures)) + "\n")
+
+
+def check_shown_season(checks):
+    """The README's season of all examples, of which one is refused under 15, and the line that it prints for it."""
+    status, packed, said = called(["season", "pack", *(str(EXAMPLES / f"{name}.txt") for name in ALL)], b"")
+    line = season_line(packed).decode()
+    checks.same("all examples packed", (status, said, line.split()[8]), (0, "", "1"))
+    command = "    tools/sheet season pack examples/*.txt | ./season -\n"
+    checks.same("the line of all examples in the README", f"{command}\nprints\n\n    {line}" in README.read_text(), True)

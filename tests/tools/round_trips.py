@@ -4,12 +4,13 @@ import random
 
 from checks import ROOT
 from reference import fields
-from reference.limits import MAX_COORDINATE, MAX_COST, MAX_SIZE, MAX_VARIABLES
+from reference.limits import FORBIDDEN_WEIGHT, MAX_COORDINATE, MAX_COST, MAX_SIZE, MAX_VARIABLES
 from sheets.forms import text_to_words, words_to_text
 
 SHEETS = 200
 COORDINATES = [0, 1, -1, 5, -5, 49, -49, 50, -50, 99, -99, 100, -100, 12_345, MAX_COORDINATE, -MAX_COORDINATE]
-COSTS = [0, 1, 9, 10, 300, MAX_COST - 1, MAX_COST]
+# The last is the reference's for a forbidden entry.
+COSTS = [0, 1, 9, 10, 300, MAX_COST - 1, MAX_COST, FORBIDDEN_WEIGHT]
 # 14,080 words, whose instance has 16,000: 13 for the stations, 3 for each of 704 legs, 5 for each entry.
 LONGEST_INSTANCE = [[(0, 0)] * MAX_SIZE] * MAX_VARIABLES, [([(0, 0), (1, 0), (2, 0), (3, 0)], 1)] * 2_775
 
@@ -57,7 +58,9 @@ def limits():
     return {
         "most stations and spots": ([[here] * MAX_SIZE] * MAX_VARIABLES, [([], 1)] * (4_096 - 11 * 64)),
         "most entries": ([[here]], [([], 0)] * 4_096),
+        "most forbidden": ([[here]], [fields.forbidden()] * 4_096),
         "longest entry": ([[here]] * 12, [([(variable, 0) for variable in range(12)], MAX_COST)]),
+        "longest forbidden": ([[here]] * 12, [fields.forbidden(*((variable, 0) for variable in range(12)))]),
         "longest instance": LONGEST_INSTANCE,
         "most words": ([[here]] * 3, [([(0, 0), (1, 0), (2, 0)], 1)] * 3_997 + [([(0, 0)], 1)]),
     }
@@ -85,7 +88,7 @@ def loose_metres(rng, centimetres):
 
 def loose_entry(rng, bindings, cost):
     spots = " ".join(f"{variable}/{value}" for variable, value in bindings)
-    if len(bindings) == 1 and cost == MAX_COST and rng.random() < 0.5:
+    if cost == FORBIDDEN_WEIGHT:
         return f"forbidden {spots}"
     return f"cost {cost} at {spots}" if spots else f"cost {cost}"
 

@@ -7,7 +7,7 @@ import tempfile
 
 import round_trips
 from checks import called, ran
-from examples import content
+from examples import FORBIDDEN, content
 from packing import REFUSED
 from reference import fields
 from reference.answers import GOOD
@@ -30,7 +30,8 @@ def reasons(source):
 
 def check_each(checks):
     good, no_room = content("corner.sheet"), fields.as_bytes(crowded(ROOM + 1))
-    sheets = [good, *REFUSED.values(), good, no_room]
+    # Of the forbidden one nothing is said, since it is refused only once it is planned.
+    sheets = [good, *REFUSED.values(), content(f"{FORBIDDEN}.sheet"), no_room]
     lines = [f"sheet {number}: {reason}" for number, reason in enumerate(NO_TEXT.values(), 2)]
     checks.same("refused sheets", reasons(season(sheets)), lines + [f"sheet 7: {refusal_of_words(no_room).decode().strip()}"])
     checks.answers(["season", "why", "examples/three.season"], b"", b"")

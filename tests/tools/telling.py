@@ -5,7 +5,7 @@ import tempfile
 from pathlib import Path
 
 from checks import ROOT
-from examples import NAMES, content
+from examples import ALL, content
 from reference import fields, words
 from sheets.forms import is_text
 
@@ -24,8 +24,8 @@ def in_the_shell(data):
 
 
 def run(checks):
-    texts = TEXTS + [content(f"{name}.txt") for name in NAMES]
-    no_texts = NO_TEXTS + [content(f"{name}.sheet") for name in NAMES]
+    texts = TEXTS + [content(f"{name}.txt") for name in ALL]
+    no_texts = NO_TEXTS + [content(f"{name}.sheet") for name in ALL]
     for form, all_data in [("text", texts), ("words", no_texts)]:
         for data in all_data:
             what = f"the form of {len(data)} bytes, {data[:20]}"

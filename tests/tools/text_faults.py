@@ -15,7 +15,9 @@ METRES = "is not a number of metres from -10000.00 to 10000.00 with at most two 
 STATION_FORM = "a station is written as 'station NUMBER', or 'station NUMBER NAME' with a name of one word"
 SPOT_FORM = "a spot is written as 'spot NUMBER at EASTING NORTHING'"
 COST_FORM = "a cost is written as 'cost AMOUNT', or 'cost AMOUNT at STATION/SPOT STATION/SPOT ..'"
-FORBIDDEN_FORM = "a forbidden spot is written as 'forbidden STATION/SPOT', each on a line of its own"
+FORBIDDEN_FORM = "a forbidden combination is written as 'forbidden STATION/SPOT STATION/SPOT ..'"
+EARLY = "a cost or a forbidden combination before the first station"
+LATE = "a {} after the first cost or forbidden combination; all stations and spots come first"
 
 LONG_INSTANCE = ("here the instance made from the sheet passes 16,000 words, the most that the planner takes; "
                  "the 704 legs between neighbouring stations come first, with 3 words each")
@@ -51,7 +53,7 @@ def line_cases():
     yield ONE + "spot 1 at 0 0 0\n", 3, SPOT_FORM
     for wrong in ["cost", "cost 9 at", "cost 9 1/0", "cost 9 on 1/0"]:
         yield TWO + wrong, 7, COST_FORM
-    for wrong in ["forbidden", "forbidden 0/0 1/1", "forbidden at 1/0"]:
+    for wrong in ["forbidden at", "forbidden at 1/0", "forbidden at 0/0 1/1"]:
         yield TWO + wrong, 7, FORBIDDEN_FORM
 
 
@@ -88,38 +90,46 @@ def order_cases():
     yield "station 0\nspot 1 at 0 0\n", 2, order("spot", 1, 0)
     yield ONE + "spot 0 at 1 1\n", 3, order("spot", 0, 1)
     yield "spot 0 at 0 0\n", 1, "a spot before the first station"
-    yield "cost 5\n" + ONE, 1, "a cost before the first station"
-    yield "forbidden 0/0\n" + ONE, 1, "a cost before the first station"
-    yield ONE + "cost 5\nstation 1\n", 4, "a station after the first cost; all stations and spots come first"
-    yield ONE + "cost 5\nspot 1 at 0 0\n", 4, "a spot after the first cost; all stations and spots come first"
+    for entry in ["cost 5", "cost 5 at 0/0", "forbidden 0/0", "forbidden"]:
+        yield f"{entry}\n" + ONE, 1, EARLY
+        yield ONE + f"{entry}\nstation 1\n", 4, LATE.format("station")
+        yield ONE + f"{entry}\nspot 1 at 0 0\n", 4, LATE.format("spot")
     yield ONE + "station 1 # empty\n\n# end\n", 3, "station 1 has no spot"
     yield "\nstation 0\nstation 1\nspot 0 at 0 0\n", 2, "station 0 has no spot"
     yield "station 0\n\ncost 5 at 0/0\n", 1, "station 0 has no spot"
 
 
 def entry_cases():
-    """Costs that name no combination of spots, or are too many."""
-    for wrong in ["1", "1/", "/0", "1/0/0", "1-0", "a/b", "-1/0", "1/0,", "9999999999/0"]:
-        yield TWO + f"cost 9 at {wrong}", 7, f"{wrong!r} is not a spot, which is written as STATION/SPOT, as 1/0"
-    yield TWO + "cost 9 at 2/0", 7, "there is no station 2; the last one is 1"
-    yield TWO + "cost 9 at 1/2", 7, "station 1 has no spot 2; its last one is 1"
-    yield TWO + "forbidden 0/1", 7, "station 0 has no spot 1; its last one is 0"
-    yield TWO + "cost 9 at 1/0 0/0", 7, "station 0 comes after station 1; the stations of a cost must rise"
-    yield TWO + "cost 9 at 1/0 1/1", 7, "station 1 comes after station 1; the stations of a cost must rise"
+    """Costs and forbidden combinations that name no combination of spots."""
+    for entry in ["cost 9 at", "forbidden"]:
+        for wrong in ["1", "1/", "/0", "1/0/0", "1-0", "a/b", "-1/0", "1/0,", "9999999999/0"]:
+            yield TWO + f"{entry} {wrong}", 7, f"{wrong!r} is not a spot, which is written as STATION/SPOT, as 1/0"
+        yield TWO + f"{entry} 2/0", 7, "there is no station 2; the last one is 1"
+        yield TWO + f"{entry} 0/0 1/2", 7, "station 1 has no spot 2; its last one is 1"
+        yield TWO + f"{entry} 0/1", 7, "station 0 has no spot 1; its last one is 0"
+        yield TWO + f"{entry} 1/0 0/0", 7, "station 0 comes after station 1; the stations of a combination must rise"
+        yield TWO + f"{entry} 1/0 1/1", 7, "station 1 comes after station 1; the stations of a combination must rise"
+
+
+def room_cases():
+    """Entries and words that are too many."""
     many = "more than 4,096 entries; the {} legs between neighbouring stations count first"
-    yield ONE + "cost 0\n" * 4_097, 4_099, many.format(0)
-    yield TWO + "cost 0\n" * 4_095, 6 + 4_095, many.format(2)
-    yield stations(2, 8) + "cost 0\n" * (4_097 - 64), 18 + 4_097 - 64, many.format(64)
+    for entry in ["cost 0\n", "forbidden\n"]:
+        yield ONE + entry * 4_097, 4_099, many.format(0)
+        yield TWO + entry * 4_095, 6 + 4_095, many.format(2)
+        yield stations(2, 8) + entry * (4_097 - 64), 18 + 4_097 - 64, many.format(64)
+    yield ONE + "cost 0\nforbidden\n" * 2_048 + "cost 0\n", 4_099, many.format(0)
     # 10 words of stations and spots; 3,997 entries of four words and one of two: 16,000.
     most = stations(3) + "cost 1 at 0/0 1/0 2/0\n" * 3_997 + "cost 1 at 0/0\n"
-    yield most + "cost 1\n", 6 + 3_999, "more than 16,000 words, the most that the planner takes"
+    for entry in ["cost 1\n", "forbidden\n"]:
+        yield most + entry, 6 + 3_999, "more than 16,000 words, the most that the planner takes"
     # 13 words of stations and 3 for each of 704 legs; 2,775 entries of five words: an instance of 16,000.
     longest = stations(12, 8) + "cost 1 at 0/0 1/0 2/0 3/0\n" * 2_775
     yield longest + "cost 1\n", 12 * 9 + 2_776, LONG_INSTANCE
 
 
 def run(checks):
-    for cases in (line_cases, break_cases, number_cases, order_cases, entry_cases):
+    for cases in (line_cases, break_cases, number_cases, order_cases, entry_cases, room_cases):
         for text, line, reason in cases():
             checks.refuses("words", text.encode(), f"line {line}: {reason}")
     checks.same("spoiled texts that the planner refuses", refused_after_all(random.Random("spoiled texts")), [])

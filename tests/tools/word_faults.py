@@ -19,6 +19,9 @@ TWO = [words.head(2), words.size(1), *PLACE, words.size(2), *PLACE, *PLACE]
 def head_cases():
     yield [], 0, "the sheet ends where the number of stations is due (refusal 1)"
     yield [words.size(1)], 0, "a word of kind 2 where the number of stations is due, a word of kind 1 (refusal 1)"
+    for first in [words.forbidden(), words.high_weight(1)]:
+        yield [first], 0, (f"a word of kind {words.kind_of(first)} where the number of stations is due, "
+                           "a word of kind 1 (refusal 1)")
     for stations in [0, 13, 1 << 4, 1 << 27 | 1]:
         yield [words.head(stations)], 0, f"{stations} stations; a field has 1 to 12 (refusal 1)"
 
@@ -28,6 +31,12 @@ def station_cases():
     yield TWO[:4], 4, "the sheet ends where the number of spots of station 1 is due (refusal 2)"
     yield TWO[:4] + [words.cost(1)], 4, ("a word of kind 4 where the number of spots of station 1 is due, "
                                          "a word of kind 2 (refusal 2)")
+    for taken in [words.forbidden(), words.high_weight(1)]:
+        kind = words.kind_of(taken)
+        yield TWO[:4] + [taken], 4, (f"a word of kind {kind} where the number of spots of station 1 is due, "
+                                     "a word of kind 2 (refusal 2)")
+        yield TWO[:3] + [taken], 3, (f"a word of kind {kind} where the northing of spot 0/0 is due, "
+                                     "a word of kind 9 (refusal 2)")
     for spots in [0, 9, 1 << 8 | 1]:
         yield [words.head(1), words.size(spots)], 1, f"station 0 with {spots} spots; a station has 1 to 8 (refusal 2)"
     yield TWO[:2], 2, "the sheet ends where the easting of spot 0/0 is due (refusal 2)"
@@ -42,21 +51,37 @@ def station_cases():
 
 
 def entry_cases():
-    yield TWO + [words.weight(1)], 9, ("a word of kind 6 among the costs, which have pairs (3) and a cost (4) "
-                                       "(refusal 3)")
-    yield TWO + [words.binding(1, 0)], 10, "the sheet ends where a cost is due (refusal 3)"
+    for taken in [words.weight(1), words.high_weight(0), words.high_weight(1)]:
+        yield TWO + [words.binding(0, 0), taken], 10, (
+            f"a word of kind {words.kind_of(taken)} among the entries, which have pairs (3) and then "
+            "a cost (4) or a forbidden word (11) (refusal 3)")
+    yield TWO + [words.binding(1, 0)], 10, "the sheet ends where a cost or a forbidden word is due (refusal 3)"
     for bit in [3, 7, 12, 27]:
         yield (TWO + [words.binding(1, 0) | 1 << bit, words.cost(1)], 9,
                "a pair with a set bit outside its station and spot (refusal 3)")
     yield TWO + [words.binding(2, 0), words.cost(1)], 9, "there is no station 2; the last one is 1 (refusal 3)"
     yield TWO + [words.binding(0, 1), words.cost(1)], 9, "station 0 has no spot 1; its last one is 0 (refusal 3)"
     yield (TWO + [words.binding(1, 0), words.binding(0, 0), words.cost(1)], 10,
-           "station 0 comes after station 1; the stations of a cost must rise (refusal 3)")
+           "station 0 comes after station 1; the stations of a combination must rise (refusal 3)")
+
+
+def forbidden_cases():
+    """Forbidden words with a set bit, wherever an entry ends, also where they would be the 4,097th."""
+    for unnamed, shown in [(1, "1"), (65_535, "65,535"), (1 << 27, "134,217,728"), ((1 << 28) - 1, "268,435,455")]:
+        reason = f"a forbidden word with payload {shown}, which has to be 0 (refusal 3)"
+        for before in ([], [words.binding(1, 0)], [words.binding(0, 0), words.binding(1, 1)], [words.forbidden()] * 4_094):
+            yield TWO + before + [words.forbidden(unnamed)], 9 + len(before), reason
+
+
+def count_cases():
+    """Costs that are too high, and entries that are too many, forbidden ones counted as the others."""
     dear = "a cost of 65,536; at most 65,535 (refusal 4)"
     many = "more than 4,096 entries; the 2 legs between neighbouring stations count first (refusal 5)"
     yield TWO + [words.cost(1), words.cost(65_536)], 10, dear
-    yield TWO + [words.cost(1)] * 4_095, 9 + 4_094, many
-    yield TWO + [words.cost(1)] * 4_094 + [words.cost(65_536)], 9 + 4_094, dear
+    for entry in [words.cost(1), words.forbidden()]:
+        for last in [words.cost(1), words.forbidden()]:
+            yield TWO + [entry] * 4_094 + [last], 9 + 4_094, many
+        yield TWO + [entry] * 4_094 + [words.cost(65_536)], 9 + 4_094, dear
 
 
 def instance_cases():
@@ -64,6 +89,7 @@ def instance_cases():
     longest = fields.sheet(*round_trips.LONGEST_INSTANCE)
     yield longest + [words.cost(1)], 14_080, f"{LONG_INSTANCE} (refusal 10)"
     yield longest + [words.cost(1)] * 2, 14_080, f"{LONG_INSTANCE} (refusal 10)"
+    yield longest + [words.forbidden()], 14_080, f"{LONG_INSTANCE} (refusal 10)"
     yield longest + [words.cost(1), words.cost(65_536)], 14_081, "a cost of 65,536; at most 65,535 (refusal 4)"
 
 
@@ -78,7 +104,7 @@ def length_cases():
 def run(checks):
     for data, at, reason in length_cases():
         checks.refuses("text", data, f"word {at}: {reason}")
-    for cases in (head_cases, station_cases, entry_cases, instance_cases):
+    for cases in (head_cases, station_cases, entry_cases, forbidden_cases, count_cases, instance_cases):
         for source, at, reason in cases():
             data = fields.as_bytes(source)
             checks.refuses("text", data, f"word {at}: {reason}")

@@ -29,7 +29,7 @@ def words_to_text(data):
 
 
 def refusal_of_words(data):
-    """Why the planner refuses words, as a line; nothing where it does not."""
+    """Why the planner refuses words, as a line; nothing where it does not, or only once it has planned them (15)."""
     try:
         reason = room_fault(read_words(data))
     except Fault as fault:

@@ -2,8 +2,8 @@
 
 from .sheet import sizes_of
 
-TABLE_WORDS = 15_014    # the program's buffer
-ROW_WORDS = 5
+TABLE_WORDS = 15_998    # the program's buffer
+ROW_WORDS = 6
 NO_ROOM = 12            # the planner's number
 HALF_METRE = 50         # centimetres
 
@@ -14,7 +14,7 @@ def room_fault(sheet):
     # Behind the head, the sizes and the row count.
     room = (TABLE_WORDS - len(sheet.places) - 2) // ROW_WORDS
     if rows > room:
-        return (f"{rows:,} combinations of spots have a cost, those of the legs included; "
+        return (f"{rows:,} combinations of spots have a cost or are forbidden, those of the legs included; "
                 f"the program's table has room for {room:,} (refusal {NO_ROOM})")
     return None
 
@@ -22,7 +22,7 @@ def room_fault(sheet):
 def clauses(sheet):
     """The combinations that have a row each. A station's only spot tells no plans apart, so it is left out."""
     sizes = sizes_of(sheet.places)
-    costly = [entry.bindings for entry in sheet.entries if entry.cost > 0] + costly_legs(sheet.places)
+    costly = [entry.bindings for entry in sheet.entries if entry.cost != 0] + costly_legs(sheet.places)
     return {tuple((variable, value) for variable, value in bindings if sizes[variable] > 1) for bindings in costly}
 
 

@@ -32,7 +32,7 @@ def why(path):
 
 
 def refusals(source):
-    """A line for each sheet that the planner reads and refuses. A season that is cut off ends with a refusal too."""
+    """A line for each sheet that the planner reads and refuses unplanned. A season that is cut off ends with a refusal too."""
     try:
         for packed in itertools.islice(packed_sheets(source), PLANNED_SHEETS):
             reason = refusal_of(packed)

@@ -10,20 +10,20 @@ MAX_COST = 65_535
 MAX_ENTRIES = 4_096             # the legs counted first
 MAX_WORDS = 16_000              # the program's buffers, one for the sheet and one for the instance made from it
 
-# Words of a sheet: the head, each station, each spot. An entry has one for each binding and one for its cost, as a leg
+# Words of a sheet: the head, each station, each spot. An entry has one for each binding and one that closes it, as a leg
 # has in the instance, where spots have none.
-HEAD_WORDS = STATION_WORDS = COST_WORDS = 1
+HEAD_WORDS = STATION_WORDS = CLOSING_WORDS = 1
 SPOT_WORDS = 2
 LEG_WORDS = 3
 
-# The cost at which a spot that must not be cored is entered.
-FORBIDDEN = MAX_COST
+# In place of the cost of a combination that no plan may have. It is no number: the highest cost is an ordinary one.
+FORBIDDEN = None
 
 
 class Entry(NamedTuple):
-    """One cost; an entry without bindings is a constant cost."""
+    """What a combination of spots costs, or that it is forbidden; an entry without bindings is so for every plan."""
     bindings: tuple     # of (variable, value), variables rising
-    cost: int
+    cost: int           # or FORBIDDEN
 
 
 class Sheet(NamedTuple):
@@ -42,7 +42,7 @@ def binding_fault(sizes, before, variable, value):
     if value >= sizes[variable]:
         return f"station {variable} has no spot {value}; its last one is {sizes[variable] - 1}"
     if before and variable <= before[-1][0]:
-        return f"station {variable} comes after station {before[-1][0]}; the stations of a cost must rise"
+        return f"station {variable} comes after station {before[-1][0]}; the stations of a combination must rise"
     return None
 
 

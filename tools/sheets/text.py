@@ -1,4 +1,4 @@
-"""Sheets as text: one line for each station, spot and cost, with coordinates in metres.
+"""Sheets as text: one line for each station, spot, cost and forbidden combination, with coordinates in metres.
 
     station 0 gate          # numbered from 0 in order; a name may follow
       spot 0 at 0.00 0.00   # easting and northing
@@ -9,6 +9,7 @@
     cost 12 at 0/0 1/1      # a combination of spots, stations rising
     cost 5                  # whatever the plan
     forbidden 1/1           # a spot that must not be cored
+    forbidden 0/0 1/0       # a combination of spots that no plan may have
 
 Stations come first. Names, comments, blank lines and indentation have no words.
 """
@@ -16,7 +17,7 @@ Stations come first. Names, comments, blank lines and indentation have no words.
 import re
 
 from .fault import Fault
-from .sheet import (COST_WORDS, FORBIDDEN, HEAD_WORDS, MAX_COORDINATE, MAX_COST, MAX_SIZE, MAX_VARIABLES, MAX_WORDS,
+from .sheet import (CLOSING_WORDS, FORBIDDEN, HEAD_WORDS, MAX_COORDINATE, MAX_COST, MAX_SIZE, MAX_VARIABLES, MAX_WORDS,
                     SPOT_WORDS, STATION_WORDS, Entry, Sheet, binding_fault, entry_fault, instance_fault, sizes_of)
 
 # Nine digits are above every limit.
@@ -46,8 +47,8 @@ def metres_text(centimetres):
 
 def entry_text(entry):
     spots = [f"{variable}/{value}" for variable, value in entry.bindings]
-    if entry.cost == FORBIDDEN and len(spots) == 1:
-        return f"forbidden {spots[0]}"
+    if entry.cost is FORBIDDEN:
+        return " ".join(["forbidden"] + spots)
     return " ".join([f"cost {entry.cost}"] + (["at"] + spots if spots else []))
 
 
@@ -115,13 +116,14 @@ class Draft:
         self.take_entry(spots, self.whole_number("cost", parts[0], MAX_COST))
 
     def take_forbidden(self, parts):
-        if len(parts) != 1:
-            self.refuse("a forbidden spot is written as 'forbidden STATION/SPOT', each on a line of its own")
+        """Without a spot every plan is forbidden, as a cost without one is the cost of every plan."""
+        if parts[:1] == ["at"]:
+            self.refuse("a forbidden combination is written as 'forbidden STATION/SPOT STATION/SPOT ..'")
         self.take_entry(parts, FORBIDDEN)
 
     def take_entry(self, spots, cost):
         if not self.places:
-            self.refuse("a cost before the first station")
+            self.refuse("a cost or a forbidden combination before the first station")
         self.close_station()
         sizes = sizes_of(self.places)
         bindings = []
@@ -131,7 +133,7 @@ class Draft:
         if reason:
             self.refuse(reason)
         self.entries.append(Entry(tuple(bindings), cost))
-        self.take_words(len(bindings) + COST_WORDS)
+        self.take_words(len(bindings) + CLOSING_WORDS)
         # The stations alone never make an instance too long.
         reason = instance_fault(sizes, self.words)
         if reason:
@@ -146,7 +148,7 @@ class Draft:
     def require_no_entries(self, what):
         """Stations have to be known before a cost names them, and their words stand in front."""
         if self.entries:
-            self.refuse(f"a {what} after the first cost; all stations and spots come first")
+            self.refuse(f"a {what} after the first cost or forbidden combination; all stations and spots come first")
 
     def close_station(self):
         if self.places and not self.places[-1]:

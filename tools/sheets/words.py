@@ -6,7 +6,7 @@ Reading tests in the order of document 01, front to back, so that the fault name
 import struct
 
 from .fault import Fault
-from .sheet import (MAX_COORDINATE, MAX_COST, MAX_SIZE, MAX_VARIABLES, MAX_WORDS, Entry, Sheet, binding_fault,
+from .sheet import (FORBIDDEN, MAX_COORDINATE, MAX_COST, MAX_SIZE, MAX_VARIABLES, MAX_WORDS, Entry, Sheet, binding_fault,
                     entry_fault, instance_fault, instance_surplus, sizes_of)
 
 WORD_BYTES = 4
@@ -18,8 +18,12 @@ BINDING = 3     # document 01: pair
 COST = 4
 EASTING = 8
 NORTHING = 9
+FORBIDDING = 11     # closes an entry in place of a cost
 
 BINDING_BITS = 0xF07    # station and spot; all other bits of the payload are zero
+
+# What ends an entry, as a fault says it.
+CLOSING = "a cost or a forbidden word"
 
 # The planner's numbers for these faults.
 BAD_HEAD = 1
@@ -43,8 +47,12 @@ def sheet_words(sheet):
             written += [word(EASTING, east), word(NORTHING, north)]
     for entry in sheet.entries:
         written += [word(BINDING, variable << 8 | value) for variable, value in entry.bindings]
-        written.append(word(COST, entry.cost))
+        written.append(closing_word(entry.cost))
     return written
+
+
+def closing_word(cost):
+    return word(FORBIDDING, 0) if cost is FORBIDDEN else word(COST, cost)
 
 
 def write_words(sheet):
@@ -141,21 +149,33 @@ def read_entries(reader, sizes):
 
 def read_entry(reader, sizes, counted):
     bindings = []
-    kind, payload = reader.take(BAD_ENTRY, "a cost")
-    while kind != COST:
+    kind, payload = reader.take(BAD_ENTRY, CLOSING)
+    while kind not in (COST, FORBIDDING):
         bindings.append(read_binding(reader, kind, payload, sizes, bindings))
-        kind, payload = reader.take(BAD_ENTRY, "a cost")
-    if payload > MAX_COST:
-        reader.refuse(COST_TOO_HIGH, f"a cost of {payload:,}; at most {MAX_COST:,}")
+        kind, payload = reader.take(BAD_ENTRY, CLOSING)
+    cost = read_forbidden(reader, payload) if kind == FORBIDDING else read_cost(reader, payload)
     reason = entry_fault(sizes, counted)
     if reason:
         reader.refuse(TOO_MANY_ENTRIES, reason)
-    return Entry(tuple(bindings), payload)
+    return Entry(tuple(bindings), cost)
+
+
+def read_forbidden(reader, payload):
+    if payload:
+        reader.refuse(BAD_ENTRY, f"a forbidden word with payload {payload:,}, which has to be 0")
+    return FORBIDDEN
+
+
+def read_cost(reader, payload):
+    if payload > MAX_COST:
+        reader.refuse(COST_TOO_HIGH, f"a cost of {payload:,}; at most {MAX_COST:,}")
+    return payload
 
 
 def read_binding(reader, kind, payload, sizes, before):
     if kind != BINDING:
-        reader.refuse(BAD_ENTRY, f"a word of kind {kind} among the costs, which have pairs (3) and a cost (4)")
+        reader.refuse(BAD_ENTRY, f"a word of kind {kind} among the entries, which have pairs ({BINDING}) and then "
+                                 f"a cost ({COST}) or a forbidden word ({FORBIDDING})")
     if payload & ~BINDING_BITS:
         reader.refuse(BAD_ENTRY, "a pair with a set bit outside its station and spot")
     variable, value = payload >> 8, payload & 7
