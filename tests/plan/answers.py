@@ -1,17 +1,23 @@
 """Sheets of every outcome: the program's bytes as they are, the status, and the line that says why there is no plan."""
 
 import re
+import tempfile
+from pathlib import Path
 
+from building import repository
 from commands import planned
 from reference import words
 from reference.fields import as_bytes
+from reference.limits import FORBIDDEN_WEIGHT
 from sheets import EXAMPLE, all_sheets
 from stored import stored
 
+ALL_FORBIDDEN = "every plan has a forbidden combination of spots"
+# How the names of sheets begin that are not planned and have an empty row as it is.
+NOT_PLANNED = ("paused-", "full-in-the-run-")
 STATUS = {"PLAN": 0, "REFUSED": 2, "PAUSED": 3, "FULL": 3}
-PAUSED = "plan: standard input: not planned within {} steps, the most that the program makes; no plan costs less than {}\n"
-FULL = ("plan: standard input: not planned: after {} steps the next one has no room in the program's table; "
-        "no plan costs less than {}\n")
+PAUSED = "plan: standard input: not planned within {} steps, the most that the program makes; {}\n"
+FULL = "plan: standard input: not planned: after {} steps the next one has no room in the program's table; {}\n"
 
 
 def due(text):
@@ -23,8 +29,13 @@ def due(text):
         said = ""
     else:
         steps, _, bound = fields
-        said = re.escape((PAUSED if outcome == "PAUSED" else FULL).format(steps, bound))
+        said = re.escape((PAUSED if outcome == "PAUSED" else FULL).format(steps, said_by(int(bound))))
     return STATUS[outcome], said
+
+
+def said_by(bound):
+    """A bound of so much is reached only where every plan has a forbidden combination."""
+    return ALL_FORBIDDEN if bound >= FORBIDDEN_WEIGHT else f"no plan costs less than {bound}"
 
 
 def check_sheet(checks, name, source, text):
@@ -34,10 +45,34 @@ def check_sheet(checks, name, source, text):
     checks.same(f"what is said of {name}: {told}", bool(re.fullmatch(said, told)), True)
 
 
+def check_bounds(checks, sheets, expected):
+    """A sheet that is not planned, with an entry that forbids every plan: this adds to the bound and changes no step."""
+    outcomes = set()
+    for name in filter(lambda name: name.startswith(NOT_PLANNED), sheets):
+        outcome, steps, _, bound = expected[name].decode().split()
+        text = f"{outcome} {steps} BOUND {int(bound) + FORBIDDEN_WEIGHT}\n".encode()
+        check_sheet(checks, f"{name}, forbidden", sheets[name] + as_bytes([words.forbidden()]), text)
+        outcomes.add(outcome)
+    checks.same("outcomes with a forbidden constant", outcomes, {"PAUSED", "FULL"})
+
+
+def check_edge(checks, folder):
+    """The highest bound that is told and the lowest that is not, with a program that prints them in place of the true one."""
+    for bound in (FORBIDDEN_WEIGHT - 1, FORBIDDEN_WEIGHT):
+        text = f"PAUSED 9 BOUND {bound}\n"
+        made, path = repository(folder / str(bound), f"#!/bin/sh\necho '{text.strip()}'\n")
+        status, printed, told = planned(["-"], as_bytes(EXAMPLE), command=made / "plan", path=path)
+        checks.same(f"what is said of a bound of {bound}", (status, printed, told.splitlines(keepends=True)[-1]),
+                    (STATUS["PAUSED"], text.encode(), PAUSED.format(9, said_by(bound))))
+
+
 def run(checks):
-    expected = stored()
-    for name, source in all_sheets():
+    expected, sheets = stored(), dict(all_sheets())
+    for name, source in sheets.items():
         check_sheet(checks, name, source, expected[name])
+    check_bounds(checks, sheets, expected)
+    with tempfile.TemporaryDirectory() as made:
+        check_edge(checks, Path(made))
     checks.same("a refusal in full", planned(["-"], as_bytes(EXAMPLE + [words.binding(2, 0), words.cost(1)])),
                 (2, b"REFUSED 3\n",
                  "plan: standard input: word 11: there is no station 2; the last one is 1 (refusal 3)\n"))

@@ -3,10 +3,14 @@
 import tempfile
 from pathlib import Path
 
+from answers import ALL_FORBIDDEN
 from commands import EXAMPLES, check_arguments, linked, planned, planned_to_full, tools_without
 from reference import fields, words
 
 NAMES = ["corner", "headland", "terraces"]
+# Every plan of this one has a forbidden combination.
+FORBIDDEN = "culvert"
+REASON = f"{ALL_FORBIDDEN} (refusal 15)"
 # Malformed words, none of them text: short of a word, or with a first word that is no head.
 NO_TEXT = [b"", b"\n", b"ab", b"abc", b"\x0a\x00\x00", bytes(4), b"station\0", b"\xff\xff\xff\x8f" + bytes(8)]
 NO_TEXT += [fields.as_bytes([first, words.cost(9)]) for first in (words.size(1), words.cost(9), words.northing(-1))]
@@ -33,6 +37,14 @@ def check_forms(checks, folder):
                 path.write_bytes(source)
                 checks.same(f"plan field{ending} of {name}, form {at}", planned([path]), (0, plan, ""))
         checks.same(f"plan /dev/stdin of {name}", planned(["/dev/stdin"], source), (0, plan, ""))
+
+
+def check_forbidden(checks):
+    """Answered as the other refusals are, though the words have no fault."""
+    text = (EXAMPLES / f"{FORBIDDEN}.plan").read_bytes()
+    for ending in ("sheet", "txt"):
+        name = f"examples/{FORBIDDEN}.{ending}"
+        checks.same(f"plan of {name}", planned([name]), (2, text, f"plan: {name}: {REASON}\n"))
 
 
 def check_words(checks, folder):
@@ -64,7 +76,8 @@ def check_faults(checks, folder):
 
 
 def check_plan_arguments(checks):
-    parts = (b"usage: plan FILE", b"REFUSED n", b"PAUSED s BOUND b", b"FULL s BOUND b", b"The exit status is 0 for PLAN")
+    parts = (b"usage: plan FILE", b"REFUSED n", b"15: every plan has a forbidden combination", b"PAUSED s BOUND b",
+             b"FULL s BOUND b", b"The exit status is 0 for PLAN")
     check_arguments(checks, "plan", planned, planned_to_full, "examples/corner.sheet", "the answer cannot be written", parts)
 
 
@@ -75,6 +88,9 @@ def check_without_python(checks, folder):
     checks.same("words without Python", planned(["examples/corner.sheet"], path=path), (0, plan, ""))
     checks.same("a refusal without Python", planned(["-"], path=path),
                 (2, b"REFUSED 1\n", "plan: standard input: refused with number 1, which plan --help explains\n"))
+    name = f"examples/{FORBIDDEN}.sheet"
+    checks.same("a refusal found by planning without Python", planned([name], path=path),
+                (2, b"REFUSED 15\n", f"plan: {name}: {REASON}\n"))
     checks.same("text without Python", planned(["examples/corner.txt"], path=path),
                 (1, b"", "plan: examples/corner.txt is text, which needs Python 3, and python3 is not installed\n"))
 
@@ -86,4 +102,5 @@ def run(checks):
         check_words(checks, folder)
         check_faults(checks, folder)
         check_without_python(checks, folder)
+    check_forbidden(checks)
     check_plan_arguments(checks)
