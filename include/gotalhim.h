@@ -6,10 +6,10 @@
 #include <stdint.h>
 
 /* The version of this interface. Another major version may change what is here; another minor one only adds to it. */
-#define GOTALHIM_VERSION_MAJOR 2
-#define GOTALHIM_VERSION_MINOR 1
+#define GOTALHIM_VERSION_MAJOR 3
+#define GOTALHIM_VERSION_MINOR 0
 #define GOTALHIM_VERSION_PATCH 0
-#define GOTALHIM_VERSION "2.1.0"
+#define GOTALHIM_VERSION "3.0.0"
 
 #ifdef __cplusplus
 extern "C" {
@@ -22,13 +22,18 @@ extern "C" {
  *    3 binding: variable in bits 8-11, value in bits 0-2
  *    4 cost: 0 to 65,535
  *    5 signs: index k in bits 24-27, the signs of variables 3k, 3k+1, 3k+2 in bits 0-7, 8-15, 16-23
- *    6 weight of a row, 1 to 268,435,455
+ *    6 low 28 bits of a row's weight
  *    7 step: variable in bits 24-27, first row in bits 12-23, second row in bits 0-11
  *    8, 9 easting, northing: centimetres, two's complement of 28 bits, -1,000,000 to 1,000,000
  *   10 row count
- * Instance: head, n sizes, entries. An entry is 0 to 12 bindings, variables rising, then a cost.
+ *   11 forbidden: payload 0
+ *   12 high 28 bits of a row's weight, behind the low ones
+ * Instance: head, n sizes, entries. An entry is 0 to 12 bindings, variables rising, then a cost or a forbidden word, which
+ * forbids the combination. A forbidden entry costs GOTALHIM_FORBIDDEN_WEIGHT, which is more than all costs of an instance
+ * together: a plan without a forbidden combination costs less than that, every other plan at least that.
  * Sheet: as an instance, but behind each size stand that many pairs of easting and northing.
- * Table: head, n sizes, row count, rows of four sign words and a weight, then zeros to the end of the slice.
+ * Table: head, n sizes, row count, rows, then zeros to the end of the slice. A row is four sign words and the two words of
+ * its weight, 1 to GOTALHIM_MAX_WEIGHT. Rows of five words, as version 2 had them, are not valid.
  * Plan: n bytes, the value of each variable.
  *
  * Slices. A slice is a pointer and a length in elements. The pointer is not null, even where the length is 0, and is
@@ -51,21 +56,23 @@ enum gotalhim_number {
     GOTALHIM_GOOD = 0,
     GOTALHIM_BAD_HEAD = 1,          /* no words, first word not a head, or n not 1 to 12 */
     GOTALHIM_BAD_VARIABLE = 2,      /* size or coordinate word missing, of a wrong kind or out of range */
-    GOTALHIM_BAD_ENTRY = 3,         /* entry word of a wrong kind, unknown variable or value, variables not rising, or
-                                       no cost word at the end */
+    GOTALHIM_BAD_ENTRY = 3,         /* entry word of a wrong kind, unknown variable or value, variables not rising, a
+                                       forbidden word with a payload, or neither cost nor forbidden word at the end */
     GOTALHIM_COST_TOO_HIGH = 4,     /* cost above 65,535 */
-    GOTALHIM_TOO_MANY_ENTRIES = 5,  /* the 4,097th cost word, if 4 does not apply to it; in a sheet the costs of travel
-                                       between neighbouring variables are counted first */
+    GOTALHIM_TOO_MANY_ENTRIES = 5,  /* the 4,097th cost or forbidden word, if 3 and 4 do not apply to it; in a sheet the
+                                       costs of travel between neighbouring variables are counted first */
     GOTALHIM_BAD_STEP = 6,          /* a step word that names no permitted pair */
     GOTALHIM_BAD_CLAIM = 7,         /* plan not exactly n bytes, a value out of range, or a cost that fails the claim */
     GOTALHIM_BAD_READOUT = 8,       /* variable not below n, position out of range, or plan not exactly n bytes or with a
                                        value out of range */
     GOTALHIM_BAD_TABLE = 9,         /* not a valid table */
     GOTALHIM_TARGET_TOO_SHORT = 10,
-    GOTALHIM_WEIGHT_TOO_HIGH = 11,  /* a weight would pass 268,435,455, or the cost of a completion is above it */
+    GOTALHIM_WEIGHT_TOO_HIGH = 11,  /* a weight, or the cost of a completion, would be 2 to the 56th or more */
     GOTALHIM_TABLE_FULL = 12,       /* the finished encoding or step would need more rows than there is room for */
     GOTALHIM_PAIR_LEFT = 13,        /* plan or completion wanted while a pair is left */
-    GOTALHIM_BAD_FIXED = 14         /* k above n, not exactly n - k fixed values, or one out of range */
+    GOTALHIM_BAD_FIXED = 14,        /* k above n, not exactly n - k fixed values, or one out of range */
+    GOTALHIM_FORBIDDEN = 15         /* plan wanted, but every plan has a forbidden combination: the row without literals
+                                       weighs GOTALHIM_FORBIDDEN_WEIGHT or more */
 };
 
 /* How a run ended, the first field of its answer. */
@@ -77,7 +84,11 @@ enum gotalhim_outcome {
 
 #define GOTALHIM_MAX_VARIABLES 12
 #define GOTALHIM_MAX_ROWS 4096
-#define GOTALHIM_ROW_WORDS 5
+#define GOTALHIM_ROW_WORDS 6
+
+/* What a forbidden entry costs, and the greatest weight of a row: one less than 2 to the 56th. */
+#define GOTALHIM_FORBIDDEN_WEIGHT 268431361
+#define GOTALHIM_MAX_WEIGHT UINT64_C(72057594037927935)
 
 /* The words of a table over so many variables with room for so many rows. */
 #define GOTALHIM_TABLE_WORDS(variables, rows) ((size_t)(variables) + 2 + GOTALHIM_ROW_WORDS * (size_t)(rows))
@@ -92,7 +103,7 @@ enum gotalhim_outcome {
 
 /*
  * Makes the instance of a sheet: first an entry for each pair of values of neighbouring variables, which costs the
- * distance, then the sheet's own entries. Every distance is the nearest whole metre, a half going up.
+ * distance, then the sheet's own entries word for word. Every distance is the nearest whole metre, a half going up.
  * Tests: 1 to 5 on the sheet; 10 if the instance is longer than the target.
  * Answer: the number of words written.
  * Memory: the instance in front of the target, the rest kept.
@@ -138,8 +149,10 @@ uint32_t gotalhim_run(uint32_t *table, size_t table_length,
 
 /*
  * Rebuilds the plan from a table in which no pair is left. If the table comes from the encoding of an accepted instance
- * by any list of step calls, runs and plan calls, this is a plan of least cost.
- * Tests: 9; 10 if the target is shorter than n bytes; 13.
+ * by any list of step calls, runs and plan calls, a plan that is written has the least cost and no forbidden combination,
+ * and the number is 15 exactly if every plan has one.
+ * Tests, in this order: 9; 10 if the target is shorter than n bytes; 13; 15 if the row without literals weighs
+ * GOTALHIM_FORBIDDEN_WEIGHT or more, wherever the table comes from.
  * Memory: the plan in front of the target, the rest kept.
  */
 uint32_t gotalhim_plan(const uint32_t *table, size_t table_length,
@@ -151,7 +164,9 @@ uint32_t gotalhim_plan(const uint32_t *table, size_t table_length,
  * encoding of an accepted instance by any list of step calls, runs and plan calls, or is the work table that
  * gotalhim_check left of one, the plan that is written costs the answer, no plan with these fixed values costs less, and
  * 11 does not occur. With k = n no value is fixed: the plan is that of gotalhim_plan, and the answer is
- * the weight of the row without literals, 0 if there is none.
+ * the weight of the row without literals, 0 if there is none. The number is never 15: where every plan with these fixed
+ * values has a forbidden combination, one of least cost is written all the same, and the answer is
+ * GOTALHIM_FORBIDDEN_WEIGHT or more; with k = n this is the plan that gotalhim_plan does not write.
  * Tests, in this order: 9; 10 if the target is shorter than n bytes; 14; 13; 11.
  * Answer: the weight of the rows without variables below k that the fixed values falsify.
  * Memory: all n bytes of the plan in front of the target, the fixed ones as given, the rest kept. As everywhere, the fixed
@@ -172,8 +187,8 @@ uint32_t gotalhim_complete(const uint32_t *table, size_t table_length,
  * Words of other kinds are passed over. The words of the steps made stand one behind the other from the front of the
  * derivation slice. A step is passed over where no place is left there. A run has the places behind the last word, as
  * many as its length asks for or as are left. A plan has the front of the target, as long as it asks for or as the
- * target is. A call of the list that is refused leaves memory as it says at that call, and the next one is made; its
- * number is not returned.
+ * target is. A call of the list that is refused, as a plan is with 15, leaves memory as it says at that call, and the next
+ * one is made; its number is not returned.
  * Tests: those of gotalhim_encode alone.
  * Answer: the number of steps made.
  * Memory: the table after the last call; the words of the steps made, the rest of the slice kept; the target as the
@@ -181,8 +196,9 @@ uint32_t gotalhim_complete(const uint32_t *table, size_t table_length,
  * Proved wherever the number is 0: the table is valid, and the step words are the way to it from the encoding, each the
  * next step. For every plan, the weights of the rows that it falsifies add up to its cost, so the bound is above no
  * plan's cost. There are no more steps than a number fixed by the instance. While a pair is left, nothing but 12 stops
- * a further step. Once none is left, gotalhim_plan writes a plan of least cost, and the bound is that cost;
- * gotalhim_complete writes one of least cost among those with the fixed values.
+ * a further step. Once none is left, gotalhim_plan writes a plan of least cost, and the bound is that cost, or answers 15,
+ * which it does exactly if every plan has a forbidden combination; a plan that it writes has none. gotalhim_complete writes
+ * one of least cost among those with the fixed values.
  */
 uint32_t gotalhim_drive(const uint32_t *instance, size_t instance_length,
                         uint32_t *table, size_t table_length,
@@ -194,7 +210,9 @@ uint32_t gotalhim_drive(const uint32_t *instance, size_t instance_length,
 /*
  * Checks a derivation: encodes the instance in the work table, replays the step words, each any permitted pair on its
  * variable, and then requires that the claimed cost is the bound and is the plan's cost. Number 0 means that the claimed
- * cost is the least cost of the instance and that the plan has it, whoever made derivation, plan and claim.
+ * cost is the least cost of the instance and that the plan has it, whoever made derivation, plan and claim. A forbidden
+ * entry counts at its cost: an accepted claim of GOTALHIM_FORBIDDEN_WEIGHT or more shows that every plan has a forbidden
+ * combination. The number is never 15; the plan may be that of gotalhim_complete with k = n.
  * Tests: 1 to 5 on the instance; 10 if the slice is shorter than n + 2 words; 12 for the encoding; for each step word
  * in turn 6, 11, 12; then 7.
  * Answer: the steps replayed, also where a step word or the claim is refused.
@@ -220,7 +238,8 @@ uint32_t gotalhim_readout(const uint32_t *sheet, size_t sheet_length,
                           uint64_t *answer, size_t answer_length);
 
 /*
- * The cost of a plan: the sum of the entries all of whose bindings it has.
+ * The cost of a plan: the sum of the entries all of whose bindings it has. It is GOTALHIM_FORBIDDEN_WEIGHT or more exactly
+ * if one of them is forbidden.
  * Tests: 1 to 5 on the instance; 7 for a plan that is not n values in range.
  * Answer: the cost.
  */

@@ -1,4 +1,5 @@
-/* Prints what the header defines, and tries tables of exactly as many words as it says and of one fewer, and completions. */
+/* Prints what the header defines, and tries tables of exactly as many words as it says and of one fewer, completions, and
+ * forbidden combinations. */
 #include <stdio.h>
 #include <stdlib.h>
 
@@ -27,16 +28,19 @@ static void print_values(void)
     VALUE(GOTALHIM_TABLE_FULL);
     VALUE(GOTALHIM_PAIR_LEFT);
     VALUE(GOTALHIM_BAD_FIXED);
+    VALUE(GOTALHIM_FORBIDDEN);
     VALUE(GOTALHIM_DONE);
     VALUE(GOTALHIM_PAUSED);
     VALUE(GOTALHIM_STOPPED);
     VALUE(GOTALHIM_MAX_VARIABLES);
     VALUE(GOTALHIM_MAX_ROWS);
     VALUE(GOTALHIM_ROW_WORDS);
+    VALUE(GOTALHIM_FORBIDDEN_WEIGHT);
+    VALUE(GOTALHIM_MAX_WEIGHT);
     printf("GOTALHIM_VERSION %s\n", GOTALHIM_VERSION);
 }
 
-enum { VALUES = 8, INSTANCE_WORDS = 1 + GOTALHIM_MAX_VARIABLES * (1 + 2 * VALUES) };
+enum { VALUES = 8, INSTANCE_WORDS = 1 + GOTALHIM_MAX_VARIABLES * (1 + 2 * VALUES), ROWS = 2 * VALUES, STEPS = 50 };
 
 /* Writes an instance whose encoding has so many rows, at most as many as there are values; returns its length. */
 static size_t write_instance(uint32_t *words, uint32_t variables, uint32_t rows)
@@ -71,7 +75,7 @@ static int agrees(uint32_t variables, uint32_t rows)
     uint32_t shorter = rows == 0 ? GOTALHIM_TARGET_TOO_SHORT : GOTALHIM_TABLE_FULL;
     return encoded(variables, rows, words) == GOTALHIM_GOOD && encoded(variables, rows, words - 1) == shorter
         && GOTALHIM_TABLE_ROWS(variables, words) == rows
-        && GOTALHIM_TABLE_ROWS(variables, words + 4) == rows
+        && GOTALHIM_TABLE_ROWS(variables, words + GOTALHIM_ROW_WORDS - 1) == rows
         && GOTALHIM_TABLE_ROWS(variables, words - 1) == (rows == 0 ? 0 : rows - 1);
 }
 
@@ -101,6 +105,40 @@ static int completes(uint32_t variables)
     return 1;
 }
 
+/* Writes an instance whose first variable has so many forbidden values, from value 0 on, which costs 1 beside; returns its
+ * length. */
+static size_t write_forbidden(uint32_t *words, uint32_t variables, uint32_t forbidden)
+{
+    size_t length = write_instance(words, variables, 1);
+    for (uint32_t value = 0; value < forbidden; value++) {
+        words[length++] = 3u << 28 | value;
+        words[length++] = 11u << 28;
+    }
+    return length;
+}
+
+/* Whether values are forbidden as the header says: the plan has the first that is good. Where all are forbidden there is no
+ * plan but a completion, at the cost of a forbidden entry; the checker accepts either. */
+static int forbids(uint32_t variables, uint32_t forbidden)
+{
+    uint32_t instance[INSTANCE_WORDS], table[GOTALHIM_TABLE_WORDS(GOTALHIM_MAX_VARIABLES, ROWS)], derivation[STEPS];
+    uint64_t ran[3], cost = 9, weight = 9, replayed;
+    uint8_t plan[GOTALHIM_MAX_VARIABLES] = {9}, best[GOTALHIM_MAX_VARIABLES];
+    size_t length = write_forbidden(instance, variables, forbidden), words = GOTALHIM_TABLE_WORDS(variables, ROWS);
+    int all = forbidden == VALUES;
+
+    if (gotalhim_encode(instance, length, table, words, ran, 1) != GOTALHIM_GOOD
+        || gotalhim_run(table, words, STEPS, derivation, STEPS, ran, 3) != GOTALHIM_GOOD || ran[0] != GOTALHIM_DONE
+        || gotalhim_plan(table, words, plan, variables) != (all ? GOTALHIM_FORBIDDEN : GOTALHIM_GOOD)
+        || gotalhim_complete(table, words, variables, plan, 0, best, variables, &weight, 1) != GOTALHIM_GOOD
+        || gotalhim_cost(instance, length, best, variables, &cost, 1) != GOTALHIM_GOOD)
+        return 0;
+    return plan[0] == (all ? 9 : best[0]) && best[0] == (all || forbidden == 0 ? 1 : forbidden)
+        && cost == (all ? GOTALHIM_FORBIDDEN_WEIGHT : 0) && weight == cost && ran[2] == cost
+        && gotalhim_check(instance, length, derivation, ran[1], best, variables, cost, table, words, &replayed, 1)
+               == GOTALHIM_GOOD;
+}
+
 int main(void)
 {
     print_values();
@@ -115,6 +153,12 @@ int main(void)
             printf("a completion over %u variables does not agree\n", (unsigned)variables);
             return 1;
         }
+    for (uint32_t variables = 1; variables <= GOTALHIM_MAX_VARIABLES; variables++)
+        for (uint32_t forbidden = 0; forbidden <= VALUES; forbidden++)
+            if (!forbids(variables, forbidden)) {
+                printf("%u forbidden values over %u variables do not agree\n", (unsigned)forbidden, (unsigned)variables);
+                return 1;
+            }
     for (size_t words = 0; words < 30000; words += 100)
         printf("rows of %lu words: %lu %lu\n", (unsigned long)words, (unsigned long)GOTALHIM_TABLE_ROWS(1, words),
                (unsigned long)GOTALHIM_TABLE_ROWS(12, words));

@@ -7,7 +7,7 @@ from reference.tables import capacity
 
 # The outcomes of a run have no numbers in the reference, but the comparisons with it have these.
 OUTCOMES = {"DONE": 0, "PAUSED": 1, "STOPPED": 2}
-LIMITS = ["MAX_VARIABLES", "MAX_ROWS", "ROW_WORDS"]
+LIMITS = ["MAX_VARIABLES", "MAX_ROWS", "ROW_WORDS", "FORBIDDEN_WEIGHT", "MAX_WEIGHT"]
 VERSION = ["VERSION_MAJOR", "VERSION_MINOR", "VERSION_PATCH"]
 # Names with a value of their own, not those of macros with arguments.
 DEFINED = re.compile(r"^(?:#define|   ) GOTALHIM_(\w+) ", re.MULTILINE)
