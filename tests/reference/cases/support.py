@@ -5,11 +5,12 @@ from itertools import product
 
 from reference import complete_call, words
 from reference.fields import as_bytes, sheet
+from reference.limits import FORBIDDEN_WEIGHT
 from reference.tables import capacity, read_table
 
 from .plain import plain_answer, plain_completion, plain_rows, value_set
 
-COSTS = [0, 1, 1, 2, 3, 5, 9, 65_535]
+COSTS = [0, 1, 1, 2, 3, 5, 9, 65_535, FORBIDDEN_WEIGHT]
 
 # Document 01's worked example as little-endian words.
 EXAMPLE = bytes.fromhex("02000010" "01000020" "00000080" "00000090"
@@ -42,11 +43,18 @@ def random_field(rng):
 
 def cost_table(sizes, entries):
     """What every assignment pays, straight from the definition."""
-    costs = {}
-    for assignment in product(*(range(size) for size in sizes)):
-        has = set(enumerate(assignment))
-        costs[assignment] = sum(cost for bindings, cost in entries if set(bindings) <= has)
-    return costs
+    return {assignment: sum(cost for bindings, cost in entries if set(bindings) <= set(enumerate(assignment)))
+            for assignment in assignments(sizes)}
+
+
+def assignments(sizes):
+    return product(*(range(size) for size in sizes))
+
+
+def all_forbidden(sizes, entries):
+    """Whether every assignment has all bindings of some forbidden entry."""
+    banned = [set(bindings) for bindings, cost in entries if cost == FORBIDDEN_WEIGHT]
+    return all(any(bindings <= set(enumerate(assignment)) for bindings in banned) for assignment in assignments(sizes))
 
 
 def plain_falsified(rows, assignment):

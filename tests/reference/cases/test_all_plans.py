@@ -3,10 +3,11 @@
 import random
 from itertools import product
 
-from reference import check_call, encode, plan_call, run_call, step_call
+from reference import check_call, complete_call, encode, plan_call, run_call, step_call
 from reference.fields import instance, table_length
+from reference.limits import FORBIDDEN_WEIGHT
 
-from .support import Comparison, cost_table, random_field
+from .support import Comparison, all_forbidden, cost_table, random_field
 
 
 class Fields(Comparison):
@@ -18,9 +19,9 @@ class Fields(Comparison):
         self.assertEqual(bound, min(costs.values()))
         self.assertEqual(run_call(start, 9_999, [4] * (len(derivation) + 1)),
                          ("done", 0, len(derivation), bound, table, derivation + [4]))
-        planned = plan_call(table, [8] * 5)
-        assignment = planned.target[:len(sizes)]
-        self.assertEqual((planned.number, planned.target[len(sizes):]), (0, [8] * (5 - len(sizes))))
+        assignment = complete_call(table, len(sizes), [], [8] * len(sizes)).target
+        self.assertEqual(plan_call(table, [8] * 5), (15, [8] * 5) if all_forbidden(sizes, entries)
+                         else (0, assignment + [8] * (5 - len(sizes))))
         self.assertEqual(costs[tuple(assignment)], bound)
         self.assertEqual(check_call(source, derivation, assignment, bound, [6] * len(start)),
                          (0, len(derivation), table))
@@ -47,13 +48,18 @@ class Fields(Comparison):
 
     def test_every_field_of_one_variable(self):
         for size in [1, 2, 3]:
-            for costs in product(range(4), repeat=size):
+            for costs in product([0, 1, 2, 3, FORBIDDEN_WEIGHT], repeat=size):
                 self.hold([size], [([(0, value)], cost) for value, cost in enumerate(costs)])
 
-    def test_every_field_of_two_variables(self):
+    def every_field_of_two_variables(self, paired, single):
         pairs = list(product(range(2), repeat=2))
-        for costs in product(range(3), repeat=4):
-            for first in range(2):
-                for second in range(2):
-                    entries = [([(0, a), (1, b)], cost) for (a, b), cost in zip(pairs, costs)]
-                    self.hold([2, 2], entries + [([(0, 1)], first), ([(1, 0)], second)])
+        for costs in product(paired, repeat=4):
+            for first, second in product(single, repeat=2):
+                entries = [([(0, a), (1, b)], cost) for (a, b), cost in zip(pairs, costs)]
+                self.hold([2, 2], entries + [([(0, 1)], first), ([(1, 0)], second)])
+
+    def test_every_field_of_two_variables(self):
+        self.every_field_of_two_variables([0, 1, 2], [0, 1])
+
+    def test_every_field_of_two_variables_with_forbidden_ones(self):
+        self.every_field_of_two_variables([0, 1, FORBIDDEN_WEIGHT], [0, FORBIDDEN_WEIGHT])

@@ -3,12 +3,12 @@
 import random
 from itertools import combinations
 
-from reference import check_call, encode, plan_call, run_call, step_call, words
+from reference import check_call, complete_call, encode, plan_call, run_call, step_call, words
 from reference.fields import instance, table_length
-from reference.tables import read_table
+from reference.tables import empty_weight, read_table
 
 from .plain import may_resolve, plain_rows
-from .support import Comparison, cost_table, random_field
+from .support import Comparison, all_forbidden, cost_table, random_field
 
 
 class CallLists(Comparison):
@@ -32,8 +32,9 @@ class CallLists(Comparison):
         if last.outcome != "done":
             self.assertIn(last.number, (0, 12))
             return "full" if last.number else "unfinished"
-        assignment = plan_call(table, [0] * len(sizes)).target
+        assignment = complete_call(table, len(sizes), [], [0] * len(sizes)).target
         self.assertEqual((bound, costs[tuple(assignment)]), (min(costs.values()),) * 2)
+        self.assertEqual(plan_call(table, assignment).number, 15 if all_forbidden(sizes, entries) else 0)
         self.assertEqual(check_call(source, derivation, assignment, bound, [6] * len(table)),
                          (0, len(derivation), table))
         return "done"
@@ -41,7 +42,7 @@ class CallLists(Comparison):
     def tight_table(self, rng, source):
         """The encoded table in a slice that has often no room for what the steps need."""
         sizes, rows = read_table(encode(source, [5] * 500).table)
-        length = table_length(len(sizes), len(rows) + rng.choice([0, 0, 1, 60]), rng.randrange(5))
+        length = table_length(len(sizes), len(rows) + rng.choice([0, 0, 1, 60]), rng.randrange(6))
         return encode(source, [5] * length).table
 
     def one_call(self, rng, table, derivation):
@@ -67,10 +68,10 @@ class CallLists(Comparison):
         return answer.table
 
     def plan(self, rng, table, _):
-        count, room = len(read_table(table).sizes), rng.randrange(5)
-        left = step_call(table).outcome != "done"
+        (sizes, rows), room = read_table(table), rng.randrange(5)
+        left, heavy = step_call(table).outcome != "done", empty_weight(rows) >= 268_431_361
         answer = plan_call(table, [9] * room)
-        self.assertEqual(answer.number, 10 if room < count else 13 if left else 0)
+        self.assertEqual(answer.number, 10 if room < len(sizes) else 13 if left else 15 if heavy else 0)
         if answer.number:
             self.assertEqual(answer.target, [9] * room)
         return table

@@ -4,7 +4,8 @@ import unittest
 
 from reference import check_call, words
 from reference.checker import replay
-from reference.fields import instance, rows, table, table_length
+from reference.fields import forbidden, instance, rows, table, table_length
+from reference.limits import FORBIDDEN_WEIGHT, MAX_WEIGHT
 from reference.words import step
 
 
@@ -64,12 +65,12 @@ class Checker(unittest.TestCase):
 
     def test_full_at_a_step(self):
         # The second step needs five rows.
-        for spare in range(5):
+        for spare in range(6):
             length = table_length(3, 4, spare)
             self.assertEqual(self.check(self.STEPS, [1, 1, 1], 1, length), (12, 1, self.left(self.FIRST, length)))
 
     def test_full_at_the_encoding(self):
-        length = table_length(3, 3, 4)
+        length = table_length(3, 3, 5)
         self.assertEqual(self.check(self.STEPS, [1, 1, 1], 1, length), (12, 0, [7] * length))
 
     def test_short_table(self):
@@ -89,6 +90,48 @@ class Checker(unittest.TestCase):
         # A step that comes first decides: 12 at the second word, 6 at the third.
         self.assertEqual(self.check(self.STEPS + [0], *bad_claim, length=full),
                          (12, 1, self.left(self.FIRST, full)))
+
+
+class Forbidden(unittest.TestCase):
+    """Claims in the weight of forbidden entries, and above 32 bits."""
+
+    # Both values are forbidden, the second at once with 16 others: the step leaves 1:16 times the weight.
+    ONE = instance([2], [forbidden((0, 0))] + [forbidden((0, 1))] * 17)
+    STEPS = [step(0, 0, 1)]
+    AFTER = table([2], f"1:{16 * FORBIDDEN_WEIGHT} empty:{FORBIDDEN_WEIGHT}", 20)
+
+    def check(self, assignment, claimed):
+        return check_call(self.ONE, self.STEPS, assignment, claimed, [7] * 20)
+
+    def test_claim(self):
+        self.assertEqual(self.check([0], FORBIDDEN_WEIGHT), (0, 1, self.AFTER))
+        for claimed in [0, 65_535, FORBIDDEN_WEIGHT - 1, FORBIDDEN_WEIGHT + 1, 17 * FORBIDDEN_WEIGHT,
+                        (1 << 32) + FORBIDDEN_WEIGHT]:
+            self.assertEqual(self.check([0], claimed), (7, 1, self.AFTER))
+        # The other value costs 17 times as much.
+        for claimed in [FORBIDDEN_WEIGHT, 17 * FORBIDDEN_WEIGHT, 17 * FORBIDDEN_WEIGHT - (1 << 32)]:
+            self.assertEqual(self.check([1], claimed), (7, 1, self.AFTER))
+
+    def test_claims_above_32_bits(self):
+        for count in [16, 17, 4_096]:
+            source, cost = instance([1], [forbidden()] * count), count * 268_431_361
+            left = table([1], f"empty:{cost}", 9)
+            self.assertEqual(check_call(source, [], [0], cost, [7] * 9), (0, 0, left))
+            for claimed in [cost - 1, cost + 1, cost & 0xFFFFFFF, cost % (1 << 32), cost + (1 << 56), cost + (1 << 63)]:
+                if claimed != cost:
+                    self.assertEqual(check_call(source, [], [0], claimed, [7] * 9), (7, 0, left))
+
+    def test_an_ordinary_plan_beside_forbidden_ones(self):
+        # The step moves 65,535 and leaves the forbidden value's row so much lighter.
+        source = instance([2], [forbidden((0, 0)), ([(0, 1)], 65_535)])
+        left = table([2], "2:268365826 empty:65535", 20)
+        self.assertEqual(check_call(source, self.STEPS, [1], 65_535, [7] * 20), (0, 1, left))
+        for assignment, claimed in [([0], 65_535), ([0], FORBIDDEN_WEIGHT), ([1], FORBIDDEN_WEIGHT)]:
+            self.assertEqual(check_call(source, self.STEPS, assignment, claimed, [7] * 20), (7, 1, left))
+
+    def test_faults_of_the_instance_first(self):
+        self.assertEqual(check_call(self.ONE + [words.forbidden(1)], [0], [9], 5, []), (3, 0, []))
+        self.assertEqual(check_call(self.ONE + [words.forbidden()] * 4_079, [0], [9], 5, []), (5, 0, []))
 
 
 class Replay(unittest.TestCase):
@@ -117,11 +160,11 @@ class Replay(unittest.TestCase):
 
     def test_weight_at_a_step(self):
         # No accepted instance comes to this, so the replay is given its rows.
-        before = rows("5:1 10:2 3:3 2:268435455", 1)
-        after = rows("10:1 3:3 2:268435455 empty:1", 1)
+        before = rows(f"5:1 10:2 3:3 2:{MAX_WEIGHT}", 1)
+        after = rows(f"10:1 3:3 2:{MAX_WEIGHT} empty:1", 1)
         self.assertEqual(replay((4,), before, [step(0, 0, 1)] * 2, 4), (11, 1, after))
 
     def test_nothing_to_replay(self):
-        self.assertEqual(check_call(instance([1], [([], 7)]), [], [0], 7, [7] * 8),
-                         (0, 0, table([1], "empty:7", 8)))
+        self.assertEqual(check_call(instance([1], [([], 7)]), [], [0], 7, [7] * 9),
+                         (0, 0, table([1], "empty:7", 9)))
         self.assertEqual(check_call(instance([1], []), [], [0], 0, [7] * 3), (0, 0, table([1], "", 3)))

@@ -6,7 +6,7 @@ from itertools import product
 
 from reference import complete_call, plan_call, step_call
 from reference.fields import HEAVY_ROWS, settled_rows, table, table_length
-from reference.limits import MAX_WEIGHT
+from reference.limits import FORBIDDEN_WEIGHT, MAX_WEIGHT
 from reference.tables import read_table, table_words
 
 from .support import Comparison, plain_falsified
@@ -15,14 +15,16 @@ from .test_random_tables import random_table
 HUGE = (1 << 64) - 1
 
 
-class Completions(unittest.TestCase):
+class Given(unittest.TestCase):
     def gives(self, sizes, rows, fixed, cost, assignment):
         """The fixed values are those of the last variables; a longer target keeps its rest."""
         k = len(sizes) - len(fixed)
         for rest in ([], [255] * 3):
-            self.assertEqual(complete_call(table(sizes, rows, 80), k, fixed, [255] * len(sizes) + rest),
+            self.assertEqual(complete_call(table(sizes, rows, 90), k, fixed, [255] * len(sizes) + rest),
                              (0, cost, assignment + rest))
 
+
+class Completions(Given):
     def test_p3(self):
         # The spots cost 2 as (0,0), 1 as (1,0), else nothing.
         for fixed, cost, assignment in [
@@ -88,13 +90,34 @@ class Completions(unittest.TestCase):
         self.assertEqual(complete_call(source, 3, [], [9] * 4), (0, 6, [2, 0, 1, 9]))
 
 
+class Forbidden(Given):
+    """An empty row as heavy as a forbidden entry: there is no plan, but any completion, with its cost."""
+
+    def test_k_is_the_number_of_variables(self):
+        for weight in [FORBIDDEN_WEIGHT - 1, FORBIDDEN_WEIGHT, 1 << 28, (1 << 28) + 1, 1 << 32, MAX_WEIGHT]:
+            source = table([3, 2], f"4,1:1 0,2:1 empty:{weight}", 30)
+            self.assertEqual(plan_call(source, [9] * 2).number, 0 if weight < FORBIDDEN_WEIGHT else 15)
+            self.assertEqual(complete_call(source, 2, [], [9] * 3), (0, weight, [2, 1, 9]))
+
+    def test_every_other_k(self):
+        for weight in [FORBIDDEN_WEIGHT, 1 << 28, MAX_WEIGHT - 1]:
+            for fixed, more, assignment in [([0], 1, [0, 0]), ([1], 0, [2, 1]), ([0, 0], 1, [0, 0]), ([0, 1], 1, [0, 1])]:
+                self.gives([3, 2], f"4,1:1 0,2:1 empty:{weight}", fixed, weight + more, assignment)
+
+    def test_weights_of_two_words_add_up(self):
+        # The value 0 lies in no sign, 1 in the first, 2 in both.
+        rows = f"0,6:{(1 << 28) - 1} 0,4:{(1 << 28) - 1} empty:2"
+        for value, cost in enumerate([1 << 29, (1 << 28) + 1, 2]):
+            self.gives([2, 3], rows, [value], cost, [0, value])
+
+
 class Refusals(unittest.TestCase):
     """Tables of two variables: settled, with a pair left, with rows whose weights pass the greatest, and no valid one."""
 
     settled = table([3, 2], "4,1:1 0,2:1", 20)
     unsettled = table([3, 2], "4,0:1 2,0:1", 20)
     heavy = table([3, 2], f"0,2:{MAX_WEIGHT} empty:1", 20)
-    heavy_unsettled = table([3, 2], f"4,0:1 2,0:1 0,2:{MAX_WEIGHT} empty:1", 25)
+    heavy_unsettled = table([3, 2], f"4,0:1 2,0:1 0,2:{MAX_WEIGHT} empty:1", 30)
     invalid = table([3, 2], "4,3:1 0,2:1", 20)
 
     def refuses(self, number, source, k, fixed, target):
@@ -164,7 +187,7 @@ class Refusals(unittest.TestCase):
             self.refuses(11, source, 1, [value], [9] * 2)
 
     def test_as_many_rows_as_there_may_be(self):
-        # 512 rows belong to each of the first eight variables, and zeros falsify all of them; 4,096 times 1 << 20 is 1 << 32.
+        # 512 rows belong to each of the first eight variables, and zeros falsify all of them; 4,096 times 1 << 52 is 1 << 64.
         costs = [4_096, MAX_WEIGHT] + [None] * (len(HEAVY_ROWS) - 1)
         for (first, other), cost in zip([(1, 1)] + HEAVY_ROWS, costs):
             source = table_words([8] * 12, settled_rows([first] + [other] * 4_095), table_length(12, 4_096))

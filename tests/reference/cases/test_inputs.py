@@ -3,7 +3,8 @@
 import unittest
 
 from reference import check_call, encode, make_instance, readout_call, words
-from reference.fields import instance, sheet
+from reference.fields import forbidden, instance, sheet
+from reference.inputs import cost_call
 
 ROOM = [3] * 20_000
 TWO = [words.head(2), words.size(2), words.size(3)]
@@ -28,7 +29,8 @@ class Faults(unittest.TestCase):
 
     def test_head(self):
         heads = [[], [words.size(1)], [words.head(0)], [words.head(13)], [words.head(1 << 4 | 1)],
-                 [words.head(1 << 27 | 1)], [0], [1], [words.word(15, 1)]]
+                 [words.head(1 << 27 | 1)], [0], [1], [words.forbidden()], [words.forbidden(1)], [words.high_weight(1)],
+                 [words.word(15, 1)]]
         for source in heads:
             self.refused(1, source)
             self.refused_sheet(1, source)
@@ -40,7 +42,8 @@ class Faults(unittest.TestCase):
         self.refused_sheet(1, [words.head(13)] + [words.size(1), *PLACE] * 13)
 
     def test_sizes(self):
-        for wrong in [words.size(0), words.size(9), words.size(1 << 8 | 2), words.head(1), words.cost(1), 2]:
+        for wrong in [words.size(0), words.size(9), words.size(1 << 8 | 2), words.head(1), words.cost(1), 2,
+                      words.forbidden(), words.forbidden(1), words.high_weight(1)]:
             self.refused(2, [words.head(2), words.size(1), wrong])
             self.refused_sheet(2, [words.head(2), words.size(1), *PLACE, wrong, *PLACE])
         self.refused(2, [words.head(2), words.size(1)])
@@ -50,7 +53,9 @@ class Faults(unittest.TestCase):
     def test_coordinates_missing_or_of_another_kind(self):
         start = [words.head(1), words.size(2), *PLACE]
         east, north = words.easting(5), words.northing(5)
-        for rest in [[], [east], [north, east], [east, east], [north, north], [words.cost(1)], [east, words.cost(1)]]:
+        for rest in [[], [east], [north, east], [east, east], [north, north], [words.cost(1)], [east, words.cost(1)],
+                     [words.forbidden()], [words.forbidden(5), north], [east, words.forbidden()], [east, words.forbidden(5)],
+                     [words.high_weight(5), north], [east, words.high_weight(5)]]:
             self.refused_sheet(2, start + rest)
         self.accepted_sheet(start + [east, north])
 
@@ -64,7 +69,7 @@ class Faults(unittest.TestCase):
         end = [words.cost(1)]
         wrong = [words.binding(2, 0), words.binding(15, 0), words.binding(0, 2), words.binding(1, 3),
                  words.size(1), words.weight(1), words.easting(0), words.head(2), words.step(0, 0, 1), 0,
-                 words.word(15, 0)]
+                 words.high_weight(0), words.high_weight(1), words.word(15, 0)]
         for bad in wrong:
             self.refused(3, TWO + [bad] + end)
             self.refused(3, TWO + end + [words.binding(0, 1), bad] + end)
@@ -105,6 +110,47 @@ class Faults(unittest.TestCase):
             self.refused(4, TWO + [words.cost(amount)])
             self.refused(4, TWO + [words.binding(0, 0), words.cost(amount)])
 
+    def test_forbidden_in_the_place_of_a_cost(self):
+        pair = [words.binding(0, 1), words.binding(1, 2)]
+        start = [words.head(2), words.size(2), *PLACE * 2, words.size(3), *PLACE * 3]
+        for bindings in [[], pair[:1], pair[1:], pair]:
+            self.accepted(TWO + bindings + [words.forbidden()])
+            self.accepted(TWO + bindings + [words.forbidden()] + bindings + [words.cost(1)])
+            self.accepted_sheet(start + bindings + [words.forbidden()])
+        # It closes its entry: the next one starts anew.
+        self.accepted(TWO + [words.binding(1, 0), words.forbidden(), words.binding(0, 0), words.cost(1)])
+        self.refused(3, TWO + [words.binding(1, 0), words.binding(0, 0), words.forbidden()])
+        self.refused(3, TWO + [words.binding(2, 0), words.forbidden()])
+        self.refused(3, TWO + [words.forbidden(), words.binding(0, 0)])
+
+    def test_unnamed_bits_of_forbidden(self):
+        for bit in range(28):
+            for bindings in [[], [words.binding(0, 0)]]:
+                self.refused(3, TWO + bindings + [words.forbidden(1 << bit)])
+                self.refused(3, TWO + [words.forbidden()] + bindings + [words.forbidden(1 << bit)])
+            self.refused_sheet(3, [words.head(1), words.size(1), *PLACE, words.forbidden(1 << bit)])
+        self.refused(3, TWO + [words.forbidden(65_536)])
+
+    def test_forbidden_weighs_no_ordinary_cost(self):
+        # The number itself is no cost word's, and 65,535 is none.
+        self.refused(4, TWO + [words.cost(268_431_361)])
+        source = TWO + [words.binding(0, 0), words.forbidden(), words.cost(65_535), words.binding(1, 2), words.forbidden()]
+        for assignment, cost in [([1, 0], 65_535), ([0, 0], 268_496_896), ([1, 2], 268_496_896), ([0, 2], 536_928_257)]:
+            self.assertEqual(cost_call(source, assignment), (0, cost))
+        self.assertEqual(cost_call(TWO + [words.forbidden()] * 4_096, [0, 0]), (0, 1_099_494_854_656))
+
+    def test_forbidden_entries_count(self):
+        for most in [TWO + [words.forbidden()] * 4_096, TWO + [words.binding(0, 0), words.forbidden()] * 4_096,
+                     TWO + [words.cost(0)] * 4_095 + [words.forbidden()], TWO + [words.forbidden(), words.cost(0)] * 2_048]:
+            self.accepted(most)
+            for closing in [words.forbidden(), words.cost(0)]:
+                self.refused(5, most + [closing])
+                self.refused(5, most + [words.binding(0, 0), closing])
+            self.refused(3, most + [words.forbidden(1)])
+            self.refused(3, most + [words.binding(0, 0), words.forbidden(1)])
+            self.refused(3, most + [words.binding(0, 2), words.forbidden()])
+            self.refused(4, most + [words.cost(65_536)])
+
     def test_entry_limit(self):
         most = TWO + [words.cost(0)] * 4_096
         self.accepted(most)
@@ -121,7 +167,11 @@ class Faults(unittest.TestCase):
         most = start + [words.cost(1)] * 4_093
         self.accepted_sheet(most)
         self.refused_sheet(5, most + [words.cost(1)])
+        self.refused_sheet(5, most + [words.forbidden()])
         self.refused_sheet(4, most + [words.cost(65_536)])
+        self.refused_sheet(3, most + [words.forbidden(1)])
+        self.accepted_sheet(start + [words.forbidden()] * 4_093)
+        self.refused_sheet(5, start + [words.forbidden()] * 4_094)
 
     def test_nearest_the_front_decides(self):
         low, high = words.cost(1), words.cost(65_536)
@@ -130,7 +180,10 @@ class Faults(unittest.TestCase):
         self.refused(3, TWO + [bad, high])
         self.refused(2, [words.head(1), words.size(9), bad, high])
         self.refused(1, [words.head(13), words.size(9), bad])
+        self.refused(3, TWO + [words.forbidden(1), high])
+        self.refused(4, TWO + [high, words.forbidden(1)])
         self.refused(5, TWO + [low] * 4_097 + [bad, high])
+        self.refused(5, TWO + [words.forbidden()] * 4_097 + [words.forbidden(1)])
         self.refused(3, TWO + [low] * 4_095 + [bad, low, low, low])
         self.refused_sheet(2, [words.head(1), words.size(1), words.easting(1_000_001), words.size(9), bad, high])
         self.refused_sheet(4, [words.head(1), words.size(1), *PLACE, high, bad, low])
@@ -151,6 +204,12 @@ class MadeInstance(unittest.TestCase):
 
     def test_travel_first_and_in_counting_order(self):
         self.assertEqual(make_instance(self.source(), [8] * 25), (0, 25, self.MADE))
+
+    def test_forbidden_entries_are_copied(self):
+        entries = [forbidden(), forbidden((0, 1), (2, 0)), ([(1, 1)], 65_535), forbidden((1, 0))]
+        self.assertEqual(make_instance(sheet(self.PLACES, entries), [8] * 31),
+                         (0, 30, self.MADE[:22] + [0xB0000000, 0x30000001, 0x30000200, 0xB0000000,
+                                                   0x30000101, 0x4000FFFF, 0x30000100, 0xB0000000, 8]))
 
     def test_rest_of_the_target_is_kept(self):
         self.assertEqual(make_instance(self.source(), [8] * 30), (0, 25, self.MADE + [8] * 5))

@@ -2,8 +2,9 @@
 
 import unittest
 
-from reference import plan_call
-from reference.fields import table
+from reference import encode, plan_call, run_call
+from reference.fields import forbidden, instance, table
+from reference.limits import FORBIDDEN_WEIGHT, MAX_WEIGHT
 
 
 class Plans(unittest.TestCase):
@@ -59,3 +60,51 @@ class Plans(unittest.TestCase):
         source = table([2, 2], "0,3:1 0,1:1", 20)
         self.assertEqual(plan_call(source, [9]), (9, [9]))
         self.assertEqual(plan_call([], []), (9, []))
+
+
+class Forbidden(unittest.TestCase):
+    """15 by the empty row's weight alone, after all else."""
+
+    HEAVY = [FORBIDDEN_WEIGHT, FORBIDDEN_WEIGHT + 1, (1 << 28) - 1, 1 << 28, (1 << 28) + 1, 1 << 29, 1 << 32, 1 << 55, MAX_WEIGHT]
+
+    def test_weight_of_the_empty_row(self):
+        for weight in [1, 65_535, 268_431_359, 268_431_360]:
+            self.assertEqual(plan_call(table([2, 2], f"empty:{weight} 0,2:1", 20), [9] * 3), (0, [0, 1, 9]))
+        self.assertEqual(plan_call(table([2, 2], "empty:268431361 0,2:1", 20), [9] * 3), (15, [9] * 3))
+        for weight in self.HEAVY:
+            for rows in [f"empty:{weight} 0,2:1", f"0,2:1 empty:{weight}"]:
+                self.assertEqual(plan_call(table([2, 2], rows, 20), [9] * 3), (15, [9] * 3))
+
+    def test_other_heavy_rows(self):
+        for weight in self.HEAVY:
+            for rows in [f"0,2:{weight}", f"0,2:{weight} 2,0:{weight} empty:268431360", f"empty:1 0,2:{weight} 2,0:{MAX_WEIGHT}"]:
+                self.assertEqual(plan_call(table([2, 2], rows, 25), [9] * 2).number, 0)
+
+    def test_order(self):
+        heavy = table([2, 2], "0,2:1 0,1:1 empty:268431361", 25)
+        self.assertEqual(plan_call(heavy[:-1] + [1], [9]), (9, [9]))
+        self.assertEqual(plan_call(heavy, [9]), (10, [9]))
+        self.assertEqual(plan_call(heavy, [9, 9]), (13, [9, 9]))
+        settled = table([2, 2], "0,2:1 empty:268431361", 25)
+        self.assertEqual(plan_call(settled[:-1] + [1], [9, 9]), (9, [9, 9]))
+        self.assertEqual(plan_call(settled, [9]), (10, [9]))
+        self.assertEqual(plan_call(settled, [9, 9]), (15, [9, 9]))
+
+    def planned(self, sizes, entries):
+        """The plan call's number and target at the end of a field's run."""
+        ran = run_call(encode(instance(sizes, entries), [0] * 200).table, 100, [0] * 100)
+        return plan_call(ran.table, [9] * len(sizes))
+
+    def test_fields(self):
+        # Each spot of a station; each but one; a constant; and every pair of spots by itself.
+        self.assertEqual(self.planned([2], [forbidden((0, 0)), forbidden((0, 1))]), (15, [9]))
+        self.assertEqual(self.planned([3], [forbidden((0, 0)), forbidden((0, 2)), ([(0, 1)], 65_535)]), (0, [1]))
+        self.assertEqual(self.planned([1, 2], [forbidden()]), (15, [9, 9]))
+        self.assertEqual(self.planned([1, 2], [forbidden((0, 0))]), (15, [9, 9]))
+        pairs = [forbidden((0, a), (1, b)) for a in range(2) for b in range(2)]
+        self.assertEqual(self.planned([2, 2], pairs), (15, [9, 9]))
+        self.assertEqual(self.planned([2, 2], pairs[:2] + pairs[3:]), (0, [1, 0]))
+
+    def test_all_ordinary_costs_together(self):
+        self.assertEqual(self.planned([1], [([], 65_535)] * 4_096), (0, [0]))
+        self.assertEqual(self.planned([1], [([], 65_535)] * 4_095 + [forbidden()]), (15, [9]))

@@ -7,16 +7,18 @@ import unittest
 from pathlib import Path
 
 from reference import Buffers, printed_plan, words
-from reference.fields import as_bytes, sheet
+from reference.fields import as_bytes, forbidden, growing_sheet, sheet
 
 from .support import CONSTANT_FIRST, EXAMPLE, GROWING, HERE, LONGEST
 
 
-class Printed(unittest.TestCase):
+class Lines(unittest.TestCase):
     def prints(self, source, *lines, **buffers):
         expected = "".join(line + "\n" for line in lines).encode()
         self.assertEqual(printed_plan(source, Buffers(**buffers)), expected)
 
+
+class Printed(Lines):
     def test_worked_example(self):
         self.assertEqual(printed_plan(EXAMPLE), b"PLAN\nCOST 10\nSTEPS 1\n0 0 0\n1 1 10\n")
 
@@ -26,7 +28,7 @@ class Printed(unittest.TestCase):
         self.assertEqual(ran.stdout, b"PLAN\nCOST 10\nSTEPS 1\n0 0 0\n1 1 10\n")
 
     def test_default_buffers(self):
-        self.assertEqual(Buffers(), (16_000, 16_000, 16_000, 15_014, 16_000))
+        self.assertEqual(Buffers(), (16_000, 16_000, 16_000, 15_998, 16_000))
 
     def test_metres_from_the_chosen_place(self):
         # One place each, 3 m, then 4 m and 65,535 for a combination that cannot be avoided.
@@ -47,12 +49,12 @@ class Printed(unittest.TestCase):
         self.prints(CONSTANT_FIRST, "PLAN", "COST 6", "STEPS 3", "0 1 0", steps=3)
 
     def test_full(self):
-        self.prints(GROWING, "FULL 1 BOUND 1", table=29)
-        self.prints(GROWING, "PAUSED 1 BOUND 1", table=29, limit=1)
-        self.prints(GROWING, "PLAN", "COST 1", "STEPS 2", "0 1 0", "1 1 0", "2 1 0", table=30)
+        self.prints(GROWING, "FULL 1 BOUND 1", table=34)
+        self.prints(GROWING, "PAUSED 1 BOUND 1", table=34, limit=1)
+        self.prints(GROWING, "PLAN", "COST 1", "STEPS 2", "0 1 0", "1 1 0", "2 1 0", table=35)
 
     def test_encoding_refused(self):
-        self.prints(GROWING, "REFUSED 12", table=24)
+        self.prints(GROWING, "REFUSED 12", table=28)
         self.prints(GROWING, "REFUSED 12", table=5)
         self.prints(GROWING, "REFUSED 10", table=4)
 
@@ -89,6 +91,64 @@ class Printed(unittest.TestCase):
         self.assertEqual(len(source), 64_000)
         self.prints(source, "REFUSED 10")
         self.prints(source[:-8] + as_bytes([words.binding(0, 0), words.cost(65_536)]), "REFUSED 4")
+
+
+class Forbidden(Lines):
+    def test_all_forbidden(self):
+        self.prints(as_bytes(sheet([[HERE]], [forbidden()])), "REFUSED 15")
+        self.prints(as_bytes(sheet([[HERE]], [forbidden((0, 0))])), "REFUSED 15")
+        self.prints(as_bytes(sheet([[HERE] * 2, [HERE]], [forbidden((0, 0)), forbidden((0, 1), (1, 0))])), "REFUSED 15")
+
+    def test_not_all_forbidden(self):
+        two = [[HERE] * 2, [(300, 400)]]
+        self.prints(as_bytes(sheet(two, [forbidden((0, 0))])), "PLAN", "COST 5", "STEPS 1", "0 1 0", "1 0 5")
+        self.prints(as_bytes(sheet(two, [forbidden((0, 0)), ([(0, 1)], 65_535)])),
+                    "PLAN", "COST 65540", "STEPS 1", "0 1 0", "1 0 5")
+
+    def test_the_greatest_cost_forbids_nothing(self):
+        self.prints(as_bytes(sheet([[HERE]], [([(0, 0)], 65_535)])), "PLAN", "COST 65535", "STEPS 0", "0 0 0")
+        self.prints(as_bytes(sheet([[HERE]], [([], 65_535)] * 4_096)), "PLAN", "COST 268431360", "STEPS 0", "0 0 0")
+        self.prints(as_bytes(sheet([[HERE]], [([], 65_535)] * 4_095 + [forbidden()])), "REFUSED 15")
+
+    def test_many_small_costs(self):
+        # Together they are above 65,535, which the other value costs or is forbidden.
+        small = [([(0, 0)], 40_000)] * 3
+        two = [[HERE] * 2]
+        self.prints(as_bytes(sheet(two, small + [([(0, 1)], 65_535)])), "PLAN", "COST 65535", "STEPS 1", "0 1 0")
+        self.prints(as_bytes(sheet(two, small + [forbidden((0, 1))])), "PLAN", "COST 120000", "STEPS 1", "0 0 0")
+
+    def test_refused_where_the_run_is_done_alone(self):
+        # The run has one step to make, and its table needs three rows.
+        source = as_bytes(sheet([[HERE] * 2], [forbidden(), ([(0, 0)], 1), ([(0, 1)], 2)]))
+        self.prints(source, "PAUSED 0 BOUND 268431361", limit=0)
+        self.prints(source, "REFUSED 15", limit=1)
+        self.prints(source, "REFUSED 15", table=21)
+        self.prints(source, "REFUSED 12", table=20)
+
+    def test_bounds_above_32_bits(self):
+        source = as_bytes(sheet([[HERE] * 2], [forbidden()] * 4_094 + [([(0, 0)], 1), ([(0, 1)], 2)]))
+        self.prints(source, "PAUSED 0 BOUND 1098957991934", limit=0)
+        self.prints(source, "REFUSED 15")
+        # Three rows, four after the step.
+        source = as_bytes(sheet([[HERE] * 2] * 2, [forbidden()] * 17 + [([(0, 0)], 2), ([(0, 1), (1, 0)], 1)]))
+        self.prints(source, "FULL 0 BOUND 4563333137", table=27)
+        self.prints(source, "REFUSED 15", table=28)
+
+    def test_faults(self):
+        start = as_bytes(sheet([[HERE]], []))
+        self.prints(start + as_bytes([words.forbidden(1)]), "REFUSED 3")
+        self.prints(start + as_bytes([words.forbidden()] * 4_097), "REFUSED 5")
+        self.prints(start + as_bytes([words.forbidden()] * 4_096), "REFUSED 15")
+
+
+class Rows(Lines):
+    def test_most_rows(self):
+        # The program's table has room for 2,665 rows with up to six variables, for 2,664 with more.
+        self.prints(as_bytes(growing_sheet(6, 2_664)),
+                    "PLAN", "COST 0", "STEPS 1", "0 1 0", "1 1 0", "2 0 0", "3 0 0", "4 0 0", "5 0 0")
+        for variables, most in [(6, 2_665), (7, 2_664), (12, 2_664)]:
+            self.prints(as_bytes(growing_sheet(variables, most)), "FULL 0 BOUND 0")
+            self.prints(as_bytes(growing_sheet(variables, most + 1)), "REFUSED 12")
 
 
 class Chains(unittest.TestCase):

@@ -4,18 +4,23 @@ import random
 
 from reference import step_call
 from reference.fields import table_length
+from reference.limits import MAX_WEIGHT
 from reference.tables import Row, table_words
 
 from .support import Comparison
 
 
+# Mostly small ones; those around the limit of a weight; and those around the limit of its low word.
+WEIGHTS = [[1, 2, 3, 7]] * 3 + [[MAX_WEIGHT, MAX_WEIGHT - 5, 3], [(1 << 28) - 1, 1 << 28, (1 << 28) + 1, 1, 5 << 28]]
+
+
 def random_table(rng):
     sizes = [rng.randint(2, 4) for _ in range(rng.randint(1, 4))]
     signs = {tuple(rng.randrange((1 << size) - 1) for size in sizes) for _ in range(rng.randint(1, 6))}
-    weights = [268_435_455, 268_435_450, 3] if rng.random() < 0.2 else [1, 2, 3, 7]
+    weights = rng.choice(WEIGHTS)
     rows = [Row(clause, rng.choice(weights)) for clause in sorted(signs)]
     rng.shuffle(rows)
-    length = table_length(len(sizes), len(rows) + rng.choice([0, 1, 2, 30]), rng.randrange(5))
+    length = table_length(len(sizes), len(rows) + rng.choice([0, 1, 2, 30]), rng.randrange(6))
     return table_words(sizes, rows, length)
 
 

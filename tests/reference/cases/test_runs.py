@@ -4,6 +4,7 @@ import unittest
 
 from reference import run_call, step_call, words
 from reference.fields import table, table_length
+from reference.limits import MAX_WEIGHT
 
 STEP = words.step(0, 0, 1)
 
@@ -48,14 +49,15 @@ class Runs(unittest.TestCase):
         self.assertEqual(run_call(source, 5, [7]), ("done", 0, 0, 0, source, [7]))
 
     def test_unusual_lengths(self):
-        self.assertEqual(run_call(self.START[:-4], 2 ** 40, [7] * 4),
-                         ("done", 0, 3, 6, self.END[:-4], [STEP, STEP, self.LAST, 7]))
+        for cut in range(1, 14):
+            self.assertEqual(run_call(self.START[:-cut], 2 ** 40, [7] * 4),
+                             ("done", 0, 3, 6, self.END[:-cut], [STEP, STEP, self.LAST, 7]))
 
 
 class StoppedRuns(unittest.TestCase):
     def test_full_keeps_its_steps(self):
         # 5 and 10 leave only the empty row: 10:1 3:3 empty:1.  Then 10 and 3 would leave 3, the empty row, 2 and 11.
-        length = table_length(1, 3, 4)
+        length = table_length(1, 3, 5)
         before = table([4], "5:1 10:2 3:3", length)
         after = table([4], "10:1 3:3 empty:1", length)
         self.assertEqual(run_call(before, 9, [7] * 4), ("refused", 12, 1, 1, after, [STEP, 7, 7, 7]))
@@ -67,8 +69,8 @@ class StoppedRuns(unittest.TestCase):
 
     def test_weight_keeps_its_steps(self):
         # As above, with the row 2 at its limit: the second step would add to it.
-        before = table([4], "5:1 10:2 3:3 2:268435455", 40)
-        after = table([4], "10:1 3:3 2:268435455 empty:1", 40)
+        before = table([4], f"5:1 10:2 3:3 2:{MAX_WEIGHT}", 40)
+        after = table([4], f"10:1 3:3 2:{MAX_WEIGHT} empty:1", 40)
         self.assertEqual(run_call(before, 9, [7] * 4), ("refused", 11, 1, 1, after, [STEP, 7, 7, 7]))
 
     def test_paused_comes_before_full(self):

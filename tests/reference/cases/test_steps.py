@@ -4,6 +4,7 @@ import unittest
 
 from reference import step_call, words
 from reference.fields import table, table_length
+from reference.limits import MAX_WEIGHT
 
 from .support import filler_rows
 
@@ -105,13 +106,42 @@ class Conclusions(Steps):
         # 1 at 0, 1 at 11.  The join at 0 is full; complements turn 1 into 2 and 2 into 1.
         start = [0x1000000C] + [0x20000002] * 12
         before = start + [0xA0000002,
-                          0x50000002, 0x51020000, 0x52000000, 0x53000000, 0x60000001,
-                          0x50000001, 0x51000000, 0x52000000, 0x53010000, 0x60000001] + [0] * 7
+                          0x50000002, 0x51020000, 0x52000000, 0x53000000, 0x60000001, 0xC0000000,
+                          0x50000001, 0x51000000, 0x52000000, 0x53010000, 0x60000001, 0xC0000000] + [0] * 8
         after = start + [0xA0000003,
-                         0x50000000, 0x51020000, 0x52000000, 0x53010000, 0x60000001,
-                         0x50000002, 0x51020000, 0x52000000, 0x53020000, 0x60000001,
-                         0x50000001, 0x51010000, 0x52000000, 0x53010000, 0x60000001] + [0] * 2
+                         0x50000000, 0x51020000, 0x52000000, 0x53010000, 0x60000001, 0xC0000000,
+                         0x50000002, 0x51020000, 0x52000000, 0x53020000, 0x60000001, 0xC0000000,
+                         0x50000001, 0x51010000, 0x52000000, 0x53010000, 0x60000001, 0xC0000000] + [0] * 2
         self.assertEqual(step_call(before), ("stepped", 0, 0x70000001, after))
+
+
+class TwoWordWeights(Steps):
+    """Weights around the limit of the low word, which is 268,435,455."""
+
+    def test_carry(self):
+        # The third row is the meet 2 of 3 and 6.
+        for meet in [268_435_453, 268_435_454, 268_435_455, 268_435_456, (1 << 32) - 1, (1 << 55) - 1]:
+            self.becomes([4], f"3:2 6:5 2:{meet}", (0, 0, 1), f"6:3 2:{meet + 2} 7:2")
+
+    def test_borrow(self):
+        for weight in [268_435_455, 268_435_456, 268_435_457, 1 << 29, MAX_WEIGHT]:
+            self.becomes([4], f"3:2 6:{weight}", (0, 0, 1), f"6:{weight - 2} 2:2 7:2")
+            self.becomes([4], f"3:{weight} 6:2", (0, 0, 1), f"3:{weight - 2} 2:2 7:2")
+
+    def test_low_words_alone_decide_nothing(self):
+        # By the low words 0 or 1 would be the lesser weight, and the second row would be used up, too.
+        self.becomes([4], f"3:{1 << 28} 6:2", (0, 0, 1), "3:268435454 2:2 7:2")
+        self.becomes([4], f"3:2 6:{1 << 28}", (0, 0, 1), "6:268435454 2:2 7:2")
+        self.becomes([4], f"3:{3 << 28} 6:{(2 << 28) + 1}", (0, 0, 1), f"3:268435455 2:{(2 << 28) + 1} 7:{(2 << 28) + 1}")
+
+    def test_low_word_becomes_0(self):
+        # A row is used up where the whole weight goes, not where its low word does.
+        self.becomes([4], f"3:{(1 << 28) + 2} 6:2", (0, 0, 1), f"3:{1 << 28} 2:2 7:2")
+        self.becomes([4], f"3:{1 << 28} 6:{1 << 28}", (0, 0, 1), f"2:{1 << 28} 7:{1 << 28}")
+
+    def test_forbidden_rows(self):
+        self.becomes([2], "2:268431361 1:268431361", (0, 0, 1), "empty:268431361")
+        self.becomes([2], "empty:268431361 2:268431361 1:268431362", (0, 1, 2), "empty:536862722 1:1")
 
 
 class Refusals(Steps):
@@ -121,23 +151,34 @@ class Refusals(Steps):
     ROWS = "1,1,2:5 2,2,1:3 2,3,5:"
 
     def test_weight_at_its_limit(self):
-        after = "1,1,2:2 2,3,5:268435455 0,3,3:3 3,3,3:3 1,5,2:3 1,3,6:3 2,6,1:3"
-        self.becomes(self.SIZES, self.ROWS + "268435452", (0, 0, 1), after, room=7)
+        after = f"1,1,2:2 2,3,5:{MAX_WEIGHT} 0,3,3:3 3,3,3:3 1,5,2:3 1,3,6:3 2,6,1:3"
+        self.becomes(self.SIZES, f"{self.ROWS}{MAX_WEIGHT - 3}", (0, 0, 1), after, room=7)
 
     def test_weight_passes_its_limit(self):
-        for weight in ["268435453", "268435455"]:
-            self.refused(11, self.SIZES, self.ROWS + weight, 20)
+        for weight in [MAX_WEIGHT - 2, MAX_WEIGHT]:
+            self.refused(11, self.SIZES, f"{self.ROWS}{weight}", 20)
+
+    def test_sum_of_two_halves(self):
+        # 2 to the 55th and as much again is one too many.
+        half = 1 << 55
+        self.becomes([4], f"3:{half - 1} 6:{half} 2:{half}", (0, 0, 1), f"6:1 2:{MAX_WEIGHT} 7:{half - 1}")
+        self.refused(11, [4], f"3:{half} 6:{half} 2:{half}", 20)
+        self.refused(11, [4], f"3:{MAX_WEIGHT} 6:{MAX_WEIGHT} 2:{MAX_WEIGHT}", 20)
+
+    def test_the_empty_row_passes_the_limit(self):
+        self.becomes([2], f"2:1 1:1 empty:{MAX_WEIGHT - 1}", (0, 0, 1), f"empty:{MAX_WEIGHT}")
+        self.refused(11, [2], f"2:1 1:1 empty:{MAX_WEIGHT}", 20)
 
     def test_table_full(self):
         for room in [3, 4, 5, 6]:
             self.refused(12, self.SIZES, self.ROWS + "1", room)
-        self.refused(12, self.SIZES, self.ROWS + "1", 6, spare=4)
+        self.refused(12, self.SIZES, self.ROWS + "1", 6, spare=5)
 
     def test_weight_before_full(self):
         # The first row without room would be written long before the weight is added.
         for room in [3, 6]:
-            self.refused(11, self.SIZES, self.ROWS + "268435453", room)
-            self.refused(12, self.SIZES, self.ROWS + "268435452", room)
+            self.refused(11, self.SIZES, f"{self.ROWS}{MAX_WEIGHT - 2}", room)
+            self.refused(12, self.SIZES, f"{self.ROWS}{MAX_WEIGHT - 3}", room)
 
     def test_rows_used_up_make_room(self):
         # Two rows in the only two places: both go and two come.

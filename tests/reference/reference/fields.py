@@ -1,19 +1,29 @@
 """Builders of instances, sheets and tables as words, and of bytes, from plain lists."""
 
+from itertools import combinations, islice, product
+
 from . import words
 from .inputs import Entry, Instance, entry_words, instance_words
-from .limits import MAX_WEIGHT, ROW_WORDS
+from .limits import FORBIDDEN_WEIGHT, MAX_SIZE, MAX_WEIGHT, ROW_WORDS
 from .tables import Row, rows_start, table_words
 
 NO_WORDS = b""      # a sheet of a season
-# The weight of the first of 4,096 rows and that of each other one: they add up to the greatest weight, to one more, to powers of
-# two, and far beyond.
-HEAVY_ROWS = [(65_535 + 4_095, 65_535), (65_535 + 4_096, 65_535), (1 << 16, 1 << 16), (1 << 20, 1 << 20), (MAX_WEIGHT, MAX_WEIGHT)]
+# An even share of the greatest weight for each of 4,096 rows, rounded down.
+SHARE = MAX_WEIGHT // 4_096
+# The weight of the first of 4,096 rows and that of each other one: they add up to the greatest weight, to one more, to 1 << 64,
+# to a little more than that, and far beyond.
+HEAVY_ROWS = [(SHARE + 4_095, SHARE), (SHARE + 4_096, SHARE), (1 << 52, 1 << 52), ((1 << 52) + 9, 1 << 52),
+              (MAX_WEIGHT, MAX_WEIGHT)]
 
 
 def instance(sizes, entries):
-    """Entries are (bindings, cost), bindings a list of (variable, value)."""
+    """Entries are (bindings, cost), bindings a list of (variable, value); one of cost FORBIDDEN_WEIGHT is forbidden."""
     return instance_words(Instance(tuple(sizes), made_entries(entries)))
+
+
+def forbidden(*bindings):
+    """The entry that forbids an assignment to have all these bindings."""
+    return list(bindings), FORBIDDEN_WEIGHT
 
 
 def made_entries(entries):
@@ -28,6 +38,17 @@ def sheet(places, entries):
         for east, north in values:
             written += [words.easting(east), words.northing(north)]
     return written + entry_words(made_entries(entries))
+
+
+def growing_sheet(variables, row_total):
+    """A sheet of 6 to 12 variables whose encoding has so many rows: two that are resolved to three, and others, all with the
+    second variable at 0, that go with none. All lies in one place, so that travel is free."""
+    start = [([(0, 0)], 2), ([(0, 1), (1, 0)], 1)]
+    others = (([(1, 0), *zip(bound, values)], 1)
+              for count in range(1, variables) for bound in combinations(range(2, variables), count)
+              for values in product(range(MAX_SIZE), repeat=count))
+    sizes = [2, 2] + [MAX_SIZE] * (variables - 2)
+    return sheet([[(0, 0)] * size for size in sizes], start + list(islice(others, row_total - len(start))))
 
 
 def rows(text, variables):
@@ -72,7 +93,7 @@ def as_bytes(sequence):
 
 
 def costing(cost):
-    """The bytes of a sheet of this least cost, of five words."""
+    """The bytes of a sheet of this least cost, of five words; FORBIDDEN_WEIGHT forbids its one assignment."""
     return as_bytes(sheet([[(0, 0)]], [([], cost)]))
 
 

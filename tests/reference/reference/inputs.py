@@ -6,13 +6,13 @@ from . import words
 from .answers import (BAD_CLAIM, BAD_ENTRY, BAD_HEAD, BAD_VARIABLE, COST_TOO_HIGH, GOOD,
                       TARGET_TOO_SHORT, TOO_MANY_ENTRIES, Refused, require)
 from .distance import distance
-from .limits import MAX_COORDINATE, MAX_COST, MAX_ENTRIES, MAX_SIZE, MAX_VARIABLES
+from .limits import FORBIDDEN_WEIGHT, MAX_COORDINATE, MAX_COST, MAX_ENTRIES, MAX_SIZE, MAX_VARIABLES
 
 
 class Entry(NamedTuple):
     """One entry of a cost function: what an assignment with all these bindings pays."""
     bindings: tuple     # of (variable, value), variables rising
-    cost: int
+    cost: int           # FORBIDDEN_WEIGHT where they are forbidden
 
 
 class Instance(NamedTuple):
@@ -94,14 +94,23 @@ def read_entry(reader, sizes, counted):
     bindings = []
     while True:
         taken = reader.take(BAD_ENTRY)
-        if words.kind_of(taken) == words.COST:
+        if words.kind_of(taken) in (words.COST, words.FORBIDDEN):
             break
         lowest = bindings[-1][0] + 1 if bindings else 0
         bindings.append(read_binding(taken, sizes, lowest))
-    amount = words.payload_of(taken)
-    require(amount <= MAX_COST, COST_TOO_HIGH)
+    amount = closing_cost(taken)
     require(counted < MAX_ENTRIES, TOO_MANY_ENTRIES)
     return Entry(tuple(bindings), amount)
+
+
+def closing_cost(taken):
+    """What an entry costs that a cost word or a word for forbidden closes."""
+    payload = words.payload_of(taken)
+    if words.kind_of(taken) == words.FORBIDDEN:
+        require(payload == 0, BAD_ENTRY)
+        return FORBIDDEN_WEIGHT
+    require(payload <= MAX_COST, COST_TOO_HIGH)
+    return payload
 
 
 def read_binding(taken, sizes, lowest):
@@ -170,8 +179,12 @@ def entry_words(entries):
     written = []
     for entry in entries:
         written += [words.binding(variable, value) for variable, value in entry.bindings]
-        written.append(words.cost(entry.cost))
+        written.append(closing_word(entry.cost))
     return written
+
+
+def closing_word(cost):
+    return words.forbidden() if cost == FORBIDDEN_WEIGHT else words.cost(cost)
 
 
 def instance_words(instance):

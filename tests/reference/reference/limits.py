@@ -4,11 +4,13 @@ MAX_VARIABLES = 12      # document 01: stations of a field
 MAX_SIZE = 8            # document 01: spots of a station
 MAX_COST = 65_535
 MAX_ENTRIES = 4_096
-MAX_WEIGHT = 268_435_455
+FORBIDDEN_WEIGHT = 268_431_361      # of a forbidden entry: one more than 4,096 times the greatest cost
 MAX_COORDINATE = 1_000_000
 
-# A row in a table: four words of signs and one of weight.
+# A row in a table: four words of signs and two of weight.
 SIGN_WORDS = 4
 SIGNS_PER_WORD = 3
-ROW_WORDS = SIGN_WORDS + 1
+WEIGHT_WORDS = 2
+ROW_WORDS = SIGN_WORDS + WEIGHT_WORDS
+MAX_WEIGHT = (1 << 56) - 1
 MAX_ROWS = 4_096

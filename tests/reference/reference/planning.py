@@ -19,7 +19,7 @@ class Buffers(NamedTuple):
     sheet: int = 16_000
     instance: int = 16_000
     steps: int = 16_000
-    table: int = 15_014
+    table: int = 15_998
     limit: int = 16_000
 
 
@@ -58,9 +58,16 @@ def refused(number):
 def ended(ran):
     """What a run came to: one that is stopped by 12 is no refusal of the sheet."""
     if ran.outcome == DONE:
-        return Solved(PLANNED, GOOD, ran.steps, ran.bound, plan_call(ran.table, [0] * MAX_VARIABLES).target)
+        return planned(ran, plan_call(ran.table, [0] * MAX_VARIABLES))
     if ran.outcome == PAUSED:
         return Solved(PAUSED, GOOD, ran.steps, ran.bound, [])
     if ran.number == TABLE_FULL:
         return Solved(FULL, GOOD, ran.steps, ran.bound, [])
     return refused(ran.number)
+
+
+def planned(ran, plan):
+    """What a run to the end and the plan call behind it came to."""
+    if plan.number != GOOD:
+        return refused(plan.number)
+    return Solved(PLANNED, GOOD, ran.steps, ran.bound, plan.target)

@@ -2,12 +2,12 @@
 
 from typing import NamedTuple
 
-from .answers import BAD_FIXED, GOOD, PAIR_LEFT, TARGET_TOO_SHORT, WEIGHT_TOO_HIGH, Refused, require
+from .answers import ALL_FORBIDDEN, BAD_FIXED, GOOD, PAIR_LEFT, TARGET_TOO_SHORT, WEIGHT_TOO_HIGH, Refused, require
 from .clauses import bucket_of, falsifies, full
 from .inputs import in_range
-from .limits import MAX_WEIGHT
+from .limits import FORBIDDEN_WEIGHT, MAX_WEIGHT
 from .resolution import next_pair
-from .tables import read_table
+from .tables import empty_weight, read_table
 
 
 class Planned(NamedTuple):
@@ -47,11 +47,13 @@ def chosen_value(sizes, rows, variable, higher):
 
 
 def plan_call(table, target):
-    """Writes the rebuilt assignment to the front of the target, one byte for each variable."""
+    """Writes the rebuilt assignment to the front of the target, one byte for each variable, unless all are forbidden."""
     try:
         sizes, rows = read_table(table)
         require(len(target) >= len(sizes), TARGET_TOO_SHORT)
         require(next_pair(sizes, rows) is None, PAIR_LEFT)
+        # No assignment costs less than the empty row weighs.
+        require(empty_weight(rows) < FORBIDDEN_WEIGHT, ALL_FORBIDDEN)
     except Refused as refusal:
         return Planned(refusal.number, list(target))
     return Planned(GOOD, rebuilt(sizes, rows) + list(target[len(sizes):]))

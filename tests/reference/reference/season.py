@@ -9,7 +9,7 @@ from .steps import PAUSED, REFUSED
 MOST_SHEETS = 10_000
 MOST_WORDS = 16_000
 # The refusals that a sheet can meet, each with a count of its own.
-REFUSALS = (1, 2, 3, 4, 5, 10, 12)
+REFUSALS = (1, 2, 3, 4, 5, 10, 12, 15)
 
 
 class Figures(NamedTuple):

@@ -6,8 +6,7 @@ from . import words
 from .answers import BAD_TABLE, GOOD, TABLE_FULL, TARGET_TOO_SHORT, Refused, require
 from .clauses import complement, full, is_tautology
 from .inputs import read_instance
-from .limits import (MAX_ROWS, MAX_SIZE, MAX_VARIABLES, MAX_WEIGHT, ROW_WORDS, SIGN_WORDS,
-                     SIGNS_PER_WORD)
+from .limits import MAX_ROWS, MAX_SIZE, MAX_VARIABLES, ROW_WORDS, SIGN_WORDS, SIGNS_PER_WORD
 
 
 class Row(NamedTuple):
@@ -42,7 +41,7 @@ def padded(signs):
 def row_words(row):
     signs = padded(row.signs)
     triples = [signs[at:at + SIGNS_PER_WORD] for at in range(0, len(signs), SIGNS_PER_WORD)]
-    return [words.signs(index, triple) for index, triple in enumerate(triples)] + [words.weight(row.weight)]
+    return [words.signs(index, triple) for index, triple in enumerate(triples)] + words.weight_words(row.weight)
 
 
 def table_words(sizes, rows, length):
@@ -82,8 +81,14 @@ def read_row(source, at, sizes):
     # Below full: neither full nor beyond the values of the variable.
     require(all(sign < full(size) for sign, size in zip(signs, sizes)), BAD_TABLE)
     require(not any(signs[len(sizes):]), BAD_TABLE)
-    weight = valid_payload(source, at + SIGN_WORDS, words.WEIGHT, 1, MAX_WEIGHT)
-    return Row(tuple(signs[:len(sizes)]), weight)
+    return Row(tuple(signs[:len(sizes)]), read_weight(source, at + SIGN_WORDS))
+
+
+def read_weight(source, at):
+    low = valid_payload(source, at, words.WEIGHT, 0, words.PAYLOAD_MASK)
+    high = valid_payload(source, at + 1, words.HIGH_WEIGHT, 0, words.PAYLOAD_MASK)
+    require(low or high, BAD_TABLE)
+    return high << words.PAYLOAD_BITS | low
 
 
 def added(sizes, rows, weighted):

@@ -14,11 +14,13 @@ SIZE = 2        # document 01: station word
 BINDING = 3     # document 01: pair (station, spot)
 COST = 4
 SIGNS = 5
-WEIGHT = 6
+WEIGHT = 6      # its low bits
 STEP = 7
 EASTING = 8
 NORTHING = 9
 ROW_COUNT = 10
+FORBIDDEN = 11  # in place of a cost
+HIGH_WEIGHT = 12
 
 
 def word(kind, payload):
@@ -53,14 +55,28 @@ def cost(amount):
     return word(COST, amount)
 
 
+def forbidden(unnamed=0):
+    """In the place of a cost; unnamed bits are faulty."""
+    return word(FORBIDDEN, unnamed)
+
+
 def signs(index, triple):
     """The signs of the variables 3 * index to 3 * index + 2."""
     first, second, third = triple
     return word(SIGNS, index << 24 | third << 16 | second << 8 | first)
 
 
-def weight(amount):
-    return word(WEIGHT, amount)
+def weight(low):
+    return word(WEIGHT, low)
+
+
+def high_weight(high):
+    """The bits of a weight that its first word has no room for."""
+    return word(HIGH_WEIGHT, high)
+
+
+def weight_words(amount):
+    return [weight(amount & PAYLOAD_MASK), high_weight(amount >> PAYLOAD_BITS)]
 
 
 def step(variable, first, second):
