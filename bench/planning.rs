@@ -1,7 +1,7 @@
 //! What the program does with a sheet, over the calls of either implementation, in buffers of the program's lengths.
 
 pub const SHEET_WORDS: usize = 16_000;
-pub const TABLE_WORDS: usize = 15_014;
+pub const TABLE_WORDS: usize = 15_998;
 pub const STEP_LIMIT: usize = 16_000;
 
 /// The four calls that lead from a sheet to its plan. Each answers with its number, and with a field where it has one.

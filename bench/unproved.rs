@@ -26,7 +26,7 @@ impl Calls for Plain {
             Outcome::Refused(Refusal::BadTable) => (Refusal::BadTable.number(), 0),
             Outcome::Refused(refusal) => (refusal.number(), 2),
         };
-        (number, [outcome, ran.steps as u64, u64::from(ran.bound)])
+        (number, [outcome, ran.steps as u64, ran.bound])
     }
 
     fn plan(table: &[u32], target: &mut [u8]) -> u32 {

@@ -3,15 +3,17 @@
 use crate::clause::{avoids, below, Place, Signs};
 use crate::domains::Domains;
 use crate::hunt::{next_pair, Start};
-use crate::limits::MAX_WEIGHT;
+use crate::limits::{FORBIDDEN_WEIGHT, MAX_WEIGHT};
 use crate::refusal::{require, Refusal};
-use crate::row::{rows_in, Row};
+use crate::row::{empty_weight, rows_in, Row};
 use crate::table::{rows_start, validated};
 
-/// Writes the assignment to the front of the target, one byte for each variable.
+/// Writes the assignment to the front of the target, one byte for each variable, unless all are forbidden.
 pub fn plan(table: &[u32], target: &mut [u8]) -> Result<(), Refusal> {
     let (domains, rows) = read_for(table, target)?;
     require(next_pair(&domains, rows, &Start::fresh()).is_none(), Refusal::PairLeft)?;
+    // No assignment costs less than the empty row weighs.
+    require(empty_weight(rows) < FORBIDDEN_WEIGHT, Refusal::AllForbidden)?;
     rebuild(&domains, rows, &mut target[..domains.count()], domains.count());
     Ok(())
 }
@@ -22,7 +24,7 @@ pub fn complete(table: &[u32], k: usize, fixed: &[u8], target: &mut [u8]) -> Res
     require(domains.has_from(k, fixed), Refusal::BadFixed)?;
     require(next_pair(&domains, rows, &Start::fresh()).is_none(), Refusal::PairLeft)?;
     let cost = falsified_weight(rows, k, &signs_of(k, fixed));
-    require(cost <= u64::from(MAX_WEIGHT), Refusal::WeightTooHigh)?;
+    require(cost <= MAX_WEIGHT, Refusal::WeightTooHigh)?;
     target[k..domains.count()].copy_from_slice(fixed);
     rebuild(&domains, rows, &mut target[..domains.count()], k);
     Ok(cost)
@@ -40,11 +42,12 @@ fn signs_of(variable: usize, values: &[u8]) -> Signs {
     values.iter().zip(variable..).fold([0; 4], |chosen, (&value, at)| Place::of(at).joined(&chosen, 1 << value))
 }
 
-/// The weight of the rows without variables below k that the chosen values falsify.
+/// The weight of the rows without variables below k that the chosen values falsify; one more than the greatest weight stands
+/// for all above it, since 4,096 of them pass 64 bits.
 fn falsified_weight(rows: &[Row], k: usize, chosen: &Signs) -> u64 {
     let below = below(k);
     let counts = |row: &&Row| avoids(&row.signs, &below) && avoids(&row.signs, chosen);
-    rows.iter().filter(counts).map(|row| u64::from(row.weight())).sum()
+    rows.iter().filter(counts).fold(0, |sum, row| (sum + row.weight()).min(MAX_WEIGHT + 1))
 }
 
 /// The values of the variables below k, from the last one down, where those from k on are given.

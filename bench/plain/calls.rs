@@ -96,7 +96,7 @@ fn run(line: &mut Line) -> Answer {
         Outcome::Refused(Refusal::BadTable) => (Refusal::BadTable.number(), 0),
         Outcome::Refused(refusal) => (refusal.number(), 2),
     };
-    let numbers = vec![u64::from(number), outcome, ran.steps as u64, u64::from(ran.bound)];
+    let numbers = vec![u64::from(number), outcome, ran.steps as u64, ran.bound];
     Answer { numbers }.with_words(&table).with_words(&derivation)
 }
 

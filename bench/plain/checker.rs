@@ -60,8 +60,8 @@ fn named_pair(table: &Table, word: u32) -> Option<Pair> {
 }
 
 /// Whether the claimed cost is the empty row's weight and the assignment's cost.
-fn claim_holds(instance: &[u32], read: &Instance, assignment: &[u8], claimed: u64, bound: u32) -> bool {
+fn claim_holds(instance: &[u32], read: &Instance, assignment: &[u8], claimed: u64, bound: u64) -> bool {
     read.domains.has(assignment)
-        && claimed == u64::from(bound)
+        && claimed == bound
         && claimed == cost_in(Entries::of(&instance[read.entries..]), assignment)
 }

@@ -35,7 +35,7 @@ fn rows_of(domains: &Domains, entries: Entries) -> Vec<Row> {
     for (bindings, cost) in entries.filter(|&(_, cost)| cost > 0) {
         let clause = clause_of(domains, bindings);
         match find(&rows, &clause) {
-            Some(at) => rows[at].weight += cost,
+            Some(at) => rows[at].raise(cost),
             None => rows.push(Row::new(clause, cost)),
         }
     }

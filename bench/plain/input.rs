@@ -67,8 +67,8 @@ impl<'a> Reader<'a> {
         let mut counted = counted;
         let mut lowest = 0;
         while let Some(word) = self.next() {
-            if kind(word) == words::COST {
-                require(payload(word) <= MAX_COST, Refusal::CostTooHigh)?;
+            if words::closes(word) {
+                check_closing(word)?;
                 require(counted < MAX_ENTRIES, Refusal::TooManyEntries)?;
                 counted += 1;
                 lowest = 0;
@@ -78,6 +78,15 @@ impl<'a> Reader<'a> {
             }
         }
         require(lowest == 0, Refusal::BadEntry)
+    }
+}
+
+/// Refuses a cost that is too high, and set bits beside the kind of forbidden.
+fn check_closing(word: u32) -> Result<(), Refusal> {
+    if kind(word) == words::FORBIDDEN {
+        require(payload(word) == 0, Refusal::BadEntry)
+    } else {
+        require(payload(word) <= MAX_COST, Refusal::CostTooHigh)
     }
 }
 

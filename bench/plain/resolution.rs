@@ -27,11 +27,12 @@ pub fn resolve(table: &mut Table, pair: Pair) -> Result<Start, Refusal> {
 }
 
 /// Takes weight from a row and removes it at 0.
-fn lessen(table: &mut Table, at: usize, moved: u32) {
-    if table.rows()[at].weight() == moved {
+fn lessen(table: &mut Table, at: usize, moved: u64) {
+    let weight = table.rows()[at].weight();
+    if weight == moved {
         table.remove(at);
     } else {
-        table.row_mut(at).weight -= moved;
+        table.row_mut(at).set_weight(weight - moved);
     }
 }
 
@@ -44,7 +45,7 @@ struct Looked {
 
 impl Looked {
     /// Refuses with 11 where a row found would become too heavy.
-    fn up(table: &Table, made: &Conclusions, moved: u32) -> Result<Looked, Refusal> {
+    fn up(table: &Table, made: &Conclusions, moved: u64) -> Result<Looked, Refusal> {
         let mut looked = Looked { places: [None; MAX_CONCLUSIONS], missing: 0 };
         for (clause, place) in made.clauses().iter().zip(&mut looked.places) {
             *place = find(table.rows(), clause);
@@ -56,13 +57,13 @@ impl Looked {
         Ok(looked)
     }
 
-    fn raise(&self, table: &mut Table, moved: u32) {
+    fn raise(&self, table: &mut Table, moved: u64) {
         for &at in self.places.iter().flatten() {
-            table.row_mut(at).weight += moved;
+            table.row_mut(at).raise(moved);
         }
     }
 
-    fn append(&self, table: &mut Table, made: &Conclusions, moved: u32) {
+    fn append(&self, table: &mut Table, made: &Conclusions, moved: u64) {
         for (clause, place) in made.clauses().iter().zip(&self.places) {
             if place.is_none() {
                 table.append(Row::new(*clause, moved));

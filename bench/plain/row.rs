@@ -1,33 +1,50 @@
 //! Rows of a table, as they stand in its words.
 
-use crate::clause::Signs;
-use crate::words;
+use crate::clause::{Signs, EMPTY};
+use crate::words::{self, kind, payload, PAYLOAD_BITS};
 
 #[derive(Clone, Copy)]
 #[repr(C)]
 pub struct Row {
     pub signs: Signs,
-    /// A weight word.
-    pub weight: u32,
+    /// The weight word with the low bits, and the word with the high ones.
+    low: u32,
+    high: u32,
 }
 
-pub const ROW_WORDS: usize = 5;
+pub const ROW_WORDS: usize = 6;
 
-pub const NO_ROW: Row = Row { signs: [0; 4], weight: 0 };
+pub const NO_ROW: Row = Row { signs: [0; 4], low: 0, high: 0 };
 
 impl Row {
-    pub fn new(signs: Signs, weight: u32) -> Row {
-        Row { signs, weight: words::word(words::WEIGHT, weight) }
+    pub fn new(signs: Signs, weight: u64) -> Row {
+        let mut row = Row { signs, ..NO_ROW };
+        row.set_weight(weight);
+        row
     }
 
-    pub fn weight(&self) -> u32 {
-        words::payload(self.weight)
+    pub fn weight(&self) -> u64 {
+        u64::from(payload(self.high)) << PAYLOAD_BITS | u64::from(payload(self.low))
+    }
+
+    pub fn set_weight(&mut self, weight: u64) {
+        self.low = words::word(words::WEIGHT, payload(weight as u32));
+        self.high = words::word(words::HIGH_WEIGHT, (weight >> PAYLOAD_BITS) as u32);
+    }
+
+    pub fn raise(&mut self, more: u64) {
+        self.set_weight(self.weight() + more);
+    }
+
+    /// Whether both words have their kinds and the weight is above 0.
+    pub fn has_weight(&self) -> bool {
+        kind(self.low) == words::WEIGHT && kind(self.high) == words::HIGH_WEIGHT && self.weight() > 0
     }
 }
 
-/// The whole rows in the words; up to four words behind them are left out.
+/// The whole rows in the words; up to five words behind them are left out.
 pub fn rows_in(words: &[u32]) -> &[Row] {
-    // A row is five words and nothing else, at a word's alignment.
+    // A row is six words and nothing else, at a word's alignment.
     unsafe { std::slice::from_raw_parts(words.as_ptr() as *const Row, words.len() / ROW_WORDS) }
 }
 
@@ -44,4 +61,9 @@ pub fn find(rows: &[Row], signs: &Signs) -> Option<usize> {
 /// Word by word: most rows differ in the first, which is faster than comparing all four at once.
 fn have_equal_signs(one: &Signs, other: &Signs) -> bool {
     one[0] == other[0] && one[1] == other[1] && one[2] == other[2] && one[3] == other[3]
+}
+
+/// The empty row's weight, 0 if there is none.
+pub fn empty_weight(rows: &[Row]) -> u64 {
+    find(rows, &EMPTY).map_or(0, |at| rows[at].weight())
 }

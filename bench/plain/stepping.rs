@@ -26,7 +26,7 @@ pub struct Ran {
     pub outcome: Outcome,
     pub steps: usize,
     /// The empty row's weight in the table that the run leaves.
-    pub bound: u32,
+    pub bound: u64,
 }
 
 /// Makes the next step in a table.

@@ -4,7 +4,7 @@ use crate::clause::{is_tautology, EMPTY};
 use crate::domains::Domains;
 use crate::limits::{MAX_ROWS, MAX_SIZE, MAX_VARIABLES};
 use crate::refusal::{require, Refusal};
-use crate::row::{find, rows_in, rows_in_mut, Row, ROW_WORDS};
+use crate::row::{empty_weight, find, rows_in, rows_in_mut, Row, ROW_WORDS};
 use crate::words::{self, kind, payload};
 
 /// A valid table. Spare words behind the last whole row are zero and stay so.
@@ -63,8 +63,8 @@ impl<'a> Table<'a> {
     }
 
     /// The empty row's weight, 0 if there is none.
-    pub fn bound(&self) -> u32 {
-        find(self.rows(), &EMPTY).map_or(0, |at| self.rows[at].weight())
+    pub fn bound(&self) -> u64 {
+        empty_weight(self.rows())
     }
 }
 
@@ -123,8 +123,7 @@ fn is_valid(domains: &Domains, row: &Row) -> bool {
     within
         && names_no_further(domains, row)
         && !is_tautology(domains, &row.signs)
-        && kind(row.weight) == words::WEIGHT
-        && row.weight() > 0
+        && row.has_weight()
 }
 
 /// Whether a row has no sign for a variable that the field lacks.

@@ -5,21 +5,25 @@ pub const SIZE: u32 = 2; // document 01: station word
 pub const BINDING: u32 = 3; // document 01: pair (station, spot)
 pub const COST: u32 = 4;
 pub const SIGNS: u32 = 5;
-pub const WEIGHT: u32 = 6;
+pub const WEIGHT: u32 = 6; // its low bits
 pub const STEP: u32 = 7;
 pub const EASTING: u32 = 8;
 pub const NORTHING: u32 = 9;
 pub const ROW_COUNT: u32 = 10;
+pub const FORBIDDEN: u32 = 11; // in place of a cost
+pub const HIGH_WEIGHT: u32 = 12;
+
+pub const PAYLOAD_BITS: u32 = 28;
 
 /// The bits of a binding's payload that no field has.
 const BINDING_UNNAMED: u32 = 0x0FFF_F0F8;
 
 pub fn word(kind: u32, payload: u32) -> u32 {
-    kind << 28 | payload
+    kind << PAYLOAD_BITS | payload
 }
 
 pub fn kind(word: u32) -> u32 {
-    word >> 28
+    word >> PAYLOAD_BITS
 }
 
 pub fn payload(word: u32) -> u32 {
@@ -41,6 +45,11 @@ pub fn binding_value(word: u32) -> u32 {
 
 pub fn binding_has_unnamed_bits(word: u32) -> bool {
     word & BINDING_UNNAMED != 0
+}
+
+/// Whether the word is of a kind that closes an entry.
+pub fn closes(word: u32) -> bool {
+    kind(word) == COST || kind(word) == FORBIDDEN
 }
 
 /// The payload as a signed number of centimetres.

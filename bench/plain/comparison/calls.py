@@ -7,7 +7,7 @@ from reference.answers import BAD_CLAIM, BAD_TABLE, GOOD, Refused
 from reference.inputs import cost_of, in_range, read_instance
 from reference.tables import read_table
 
-ALL_NUMBERS = list(range(15))
+ALL_NUMBERS = list(range(16))
 OUTCOMES = {"done": 0, "paused": 1, "refused": 2}
 
 

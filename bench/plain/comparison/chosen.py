@@ -4,20 +4,30 @@ from itertools import product
 
 import calls
 from reference import fields, words
-from reference.limits import MAX_ENTRIES, MAX_ROWS, MAX_WEIGHT
+from reference.limits import FORBIDDEN_WEIGHT, MAX_ENTRIES, MAX_ROWS, MAX_WEIGHT
 from reference.tables import Row, table_words
 
 
 def chosen_calls():
-    return (entry_calls() + full_calls() + faulty_tables() + heavy_and_full() + completion_calls() + heavy_completions()
-            + claim_calls() + distance_calls())
+    return (entry_calls() + forbidden_calls() + full_calls() + faulty_tables() + weight_words() + heavy_and_full()
+            + heavy_plans() + completion_calls() + heavy_completions() + claim_calls() + forbidden_claims() + distance_calls())
 
 
 def entry_calls():
     """As many entries as are allowed, one more, and one more whose cost or binding is faulty."""
-    most = fields.instance([2], [([(0, 0)], 1)] * MAX_ENTRIES)
-    behind = [[], [words.cost(0)], [words.cost(65_536)], [words.binding(0, 2), words.cost(65_536)]]
-    return [calls.encode(most + more, [0] * 20) for more in behind]
+    behind = [[], [words.cost(0)], [words.cost(65_536)], [words.binding(0, 2), words.cost(65_536)], [words.forbidden()],
+              [words.forbidden(1)]]
+    return [calls.encode(fields.instance([2], [([(0, 0)], cost)] * MAX_ENTRIES) + more, [0] * 20)
+            for cost in (1, FORBIDDEN_WEIGHT) for more in behind]
+
+
+def forbidden_calls():
+    """A forbidden entry's word, good and with each unnamed bit, in the place of every word of a sheet and an instance."""
+    sheet = fields.sheet([[(0, 0)], [(0, 0), (300, 400)]], [fields.forbidden((0, 0), (1, 1)), ([], 3)])
+    instance = fields.instance([1, 2], [fields.forbidden((0, 0), (1, 1)), ([], 3)])
+    given = [words.forbidden()] + [words.forbidden(1 << bit) for bit in range(28)] + [words.high_weight(0), words.high_weight(1)]
+    made = [calls.make(sheet[:at] + [word] + sheet[at + 1:], [0] * 40) for at in range(len(sheet)) for word in given]
+    return made + [calls.cost(instance[:at] + [word] + instance[at + 1:], [0, 1]) for at in range(len(instance)) for word in given]
 
 
 def full_calls():
@@ -34,26 +44,47 @@ def full_calls():
 def faulty_tables():
     """Two rows of equal signs, and each word behind the last whole row."""
     twice = fields.table([3, 3], "1,1:1 2,0:1 1,1:2", fields.table_length(2, 3))
-    good = fields.table([3, 3], "1,1:1 2,0:1", fields.table_length(2, 2, spare=4))
-    spare = [good[:at] + [1] + good[at + 1:] for at in range(len(good) - 4, len(good))]
-    return [make for table in [twice, *spare]
-            for make in (calls.step(table), calls.run(table, 5, [0] * 5), calls.plan(table, [0] * 2))]
+    good = fields.table([3, 3], "1,1:1 2,0:1", fields.table_length(2, 2, spare=5))
+    spare = [good[:at] + [1] + good[at + 1:] for at in range(len(good) - 5, len(good))]
+    return [call for table in [twice, *spare] for call in on_table(table)]
+
+
+def on_table(table):
+    """Each call on a table of two variables."""
+    return [calls.step(table), calls.run(table, 5, [0] * 5), calls.plan(table, [0] * 2), calls.complete(table, 2, [], [0] * 2)]
+
+
+def weight_words():
+    """A row's two words of weight with every kind and with payloads of 0, and rows of five words."""
+    good = fields.table([3, 3], "1,1:1 empty:1", fields.table_length(2, 2))
+    tables = [good[:8] + [words.word(kind, low), words.word(other, high)] + good[10:]
+              for kind in range(16) for other in range(16) for low, high in ((0, 0), (1, 0), (0, 1), (1, 1))]
+    five = good[:9] + good[10:15]
+    return [call for table in tables + [five + [0] * more for more in range(7)] for call in on_table(table)]
 
 
 def heavy_and_full():
-    """A step that would make a row too heavy and need a row too many."""
+    """A step that would make a row too heavy and need a row too many, and the same where its low word alone is full."""
     made = []
-    for weight in (MAX_WEIGHT - 1, MAX_WEIGHT):
+    for weight in (MAX_WEIGHT - 1, MAX_WEIGHT, words.PAYLOAD_MASK - 1, words.PAYLOAD_MASK):
         for room in (3, 4):
             table = fields.table([3, 3], f"1,1:1 2,0:2 0,1:{weight}", fields.table_length(2, room))
             made += [calls.step(table), calls.run(table, 5, [0] * 5)]
     return made
 
 
+def heavy_plans():
+    """The empty row around a forbidden entry's weight, with and without a pair left, beside a heavy row, in a short target."""
+    weights = [FORBIDDEN_WEIGHT - 1, FORBIDDEN_WEIGHT, FORBIDDEN_WEIGHT + 1, 1 << 28, 1 << 32, (1 << 32) + 1, MAX_WEIGHT]
+    tables = [fields.table([3, 2], f"{rows} empty:{weight}", 30)
+              for rows in ("4,1:1", "4,0:1 2,0:1", f"0,2:{MAX_WEIGHT}") for weight in weights]
+    return [call for table in tables for call in on_table(table) + [calls.plan(table, [9])]]
+
+
 def completion_calls():
     """Any k with any fixed values, in range or not, too few or too many, in tables with and without a pair, a high cost, a
     fault; the target is too short, just long enough or longer."""
-    tables = [fields.table([3, 2], rows, 25)
+    tables = [fields.table([3, 2], rows, 30)
               for rows in ("4,1:1 6,2:1 0,2:3 empty:2", f"0,2:{MAX_WEIGHT} empty:1", f"4,0:1 2,0:1 empty:{MAX_WEIGHT}", "4,3:1")]
     tails = [list(fixed) for count in range(4) for fixed in product([0, 1, 2, 3, 255], repeat=count)]
     return [calls.complete(table, k, fixed, [9] * length)
@@ -76,6 +107,17 @@ def claim_calls():
     derivation = [words.step(0, 0, 1)]
     return [calls.check(instance, derivation, [value], claimed + high, [0] * 20)
             for value in range(2) for claimed in range(4) for high in (0, 1 << 28, 1 << 32, 1 << 63)]
+
+
+def forbidden_claims():
+    """Claims of so many forbidden entries, around their cost and its low bits."""
+    made = []
+    for count in (1, 2, 16, 17, MAX_ENTRIES):
+        instance, cost = fields.instance([1], [fields.forbidden()] * count), count * FORBIDDEN_WEIGHT
+        claims = {0, cost - 1, cost, cost + 1, cost & words.PAYLOAD_MASK, cost & 0xFFFFFFFF, cost + (1 << 56), cost + (1 << 63)}
+        made += [calls.check(instance, [], [0], claimed, [0] * 9) for claimed in sorted(claims)]
+        made.append(calls.cost(instance, [0]))
+    return made
 
 
 def distance_calls():

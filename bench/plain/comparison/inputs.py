@@ -3,11 +3,13 @@
 import calls
 import reference
 from reference import fields, words
-from reference.limits import MAX_COORDINATE, MAX_WEIGHT
+from reference.limits import FORBIDDEN_WEIGHT, MAX_COORDINATE, MAX_WEIGHT, ROW_WORDS
 from reference.tables import Row, read_table, table_words
 
 ROUNDS = 60
-COSTS = [0, 0, 1, 1, 2, 3, 5, 9, 65_535]
+COSTS = [0, 0, 1, 1, 2, 3, 5, 9, 65_535, FORBIDDEN_WEIGHT]
+# Weights around the limit, around that of the low word, and around that of a forbidden entry.
+HEAVY = [1, 2, FORBIDDEN_WEIGHT - 1, FORBIDDEN_WEIGHT, (1 << 28) - 1, 1 << 28, MAX_WEIGHT // 2, MAX_WEIGHT - 1, MAX_WEIGHT]
 NEAR = [0, 1, 2, 49, 50, 51, 100, 150, 5_000, MAX_COORDINATE]
 
 
@@ -69,7 +71,7 @@ def damaged(rng, source):
     """The words with one of several faults, or, more often, as they are."""
     source = list(source)
     at = rng.randrange(len(source))
-    fault = rng.choice(["none"] * 4 + ["bit", "cut", "kind", "twice", "large"])
+    fault = rng.choice(["none"] * 4 + ["bit", "cut", "kind", "twice", "large", "forbidden"])
     if fault == "bit":
         source[at] ^= 1 << rng.randrange(32)
     elif fault == "cut":
@@ -79,7 +81,9 @@ def damaged(rng, source):
     elif fault == "twice":
         source.insert(at, source[at])
     elif fault == "large":
-        source[at] = words.cost(rng.choice([65_536, 70_000]))
+        source[at] = words.cost(rng.choice([65_536, 70_000, FORBIDDEN_WEIGHT]))
+    elif fault == "forbidden":
+        source[at] = words.forbidden(rng.choice([0, 0, 1, 1 << 27]))
     return source
 
 
@@ -89,14 +93,14 @@ def filled(rng, length):
 
 
 def table_length(rng, sizes, rows):
-    length = fields.table_length(len(sizes), rng.choice([rows, rows, rng.randint(0, rows)]), rng.randrange(5))
-    return max(0, length - rng.choice([0, 0, 0, 0, 5 * rows + 3]))
+    length = fields.table_length(len(sizes), rng.choice([rows, rows, rng.randint(0, rows)]), rng.randrange(ROW_WORDS))
+    return max(0, length - rng.choice([0, 0, 0, 0, ROW_WORDS * rows + 3]))
 
 
 def encoded(rng, sizes, instance):
     """The table of an instance, with room for 0 to 40 rows more, or None."""
     rows = len(read_table(reference.encode(instance, [0] * 5_000).table).rows)
-    length = fields.table_length(len(sizes), rows + rng.choice([0, 1, 2, 5, 40]), rng.randrange(5))
+    length = fields.table_length(len(sizes), rows + rng.choice([0, 1, 2, 5, 40]), rng.randrange(ROW_WORDS))
     return reference.encode(instance, [0] * length).table
 
 
@@ -128,14 +132,14 @@ def filled_bytes(rng, length):
 
 
 def heavy_calls(rng, sizes):
-    """A step, a run and a completion on random rows with weights near the limit."""
+    """A step, a run, a plan and a completion on random rows with weights near the limits."""
     rows = {}
     for _ in range(rng.randint(0, 12)):
         signs = tuple(rng.randrange(max(1, 2 ** size - 1)) * (rng.random() < 0.6) for size in sizes)
-        rows[signs] = rng.choice([1, 2, MAX_WEIGHT // 2, MAX_WEIGHT - 1, MAX_WEIGHT])
-    length = fields.table_length(len(sizes), len(rows) + rng.choice([0, 1, 30]), rng.randrange(5))
+        rows[signs] = rng.choice(HEAVY)
+    length = fields.table_length(len(sizes), len(rows) + rng.choice([0, 1, 30]), rng.randrange(ROW_WORDS))
     table = table_words(sizes, [Row(signs, weight) for signs, weight in rows.items()], length)
-    return [calls.step(table), calls.run(table, 60, [3] * 60), completion(rng, table, sizes)]
+    return [calls.step(table), calls.run(table, 60, [3] * 60), calls.plan(table, [9] * 12), completion(rng, table, sizes)]
 
 
 def check_calls(rng, sizes, instance):
@@ -143,8 +147,9 @@ def check_calls(rng, sizes, instance):
     table = encoded(rng, sizes, instance)
     run = reference.run_call(table, 400, [0] * 400)
     derivation = run.derivation[:run.steps]
-    planned = reference.plan_call(run.table, [0] * len(sizes))
-    lent = filled(rng, len(table) + rng.choice([-5, 0, 0, 0, 30]))
+    # As the plan, or where all plans are forbidden, with all values rebuilt.
+    planned = reference.complete_call(run.table, len(sizes), [], [0] * len(sizes))
+    lent = filled(rng, len(table) + rng.choice([-ROW_WORDS, 0, 0, 0, 30]))
     hurt = damaged(rng, derivation) if derivation else [words.step(0, 0, 1)]
     return [calls.check(instance, derivation, planned.target, run.bound, lent),
             calls.check(damaged(rng, instance), hurt, planned.target, run.bound, lent),
