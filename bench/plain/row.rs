@@ -53,14 +53,11 @@ pub fn rows_in_mut(words: &mut [u32]) -> &mut [Row] {
     unsafe { std::slice::from_raw_parts_mut(words.as_mut_ptr() as *mut Row, words.len() / ROW_WORDS) }
 }
 
-/// The place of the row with these signs.
+/// The place of the row with these signs. The first word with a sign is compared before all: most rows differ in it.
 pub fn find(rows: &[Row], signs: &Signs) -> Option<usize> {
-    rows.iter().position(|row| have_equal_signs(&row.signs, signs))
-}
-
-/// Word by word: most rows differ in the first, which is faster than comparing all four at once.
-fn have_equal_signs(one: &Signs, other: &Signs) -> bool {
-    one[0] == other[0] && one[1] == other[1] && one[2] == other[2] && one[3] == other[3]
+    let telling = (0..3).find(|&k| signs[k] != EMPTY[k]).unwrap_or(3);
+    let word = signs[telling];
+    rows.iter().position(|row| row.signs[telling] == word && row.signs == *signs)
 }
 
 /// The empty row's weight, 0 if there is none.
