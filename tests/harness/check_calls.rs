@@ -43,9 +43,9 @@ fn planned(random: &mut Random, field: &Field) -> Derived {
     let ran = plain::run(&mut table, STEPS, &mut words);
     words.truncate(ran.steps);
     let mut assignment = field.assignment(random);
-    // Where a pair is left, the random assignment stays.
-    let _ = plain::plan(&table, &mut assignment);
-    Derived { words, bound: u64::from(ran.bound), assignment }
+    // Where all are forbidden, this one is claimed as well; where a pair is left, the random assignment stays.
+    let _ = plain::complete(&table, field.variables(), &[], &mut assignment);
+    Derived { words, bound: ran.bound, assignment }
 }
 
 /// A derivation of permitted pairs on any variables, in any order.
@@ -63,7 +63,7 @@ fn permitted(random: &mut Random, field: &Field) -> Derived {
         }
     }
     let bound = plain::run(&mut table, 0, &mut []).bound;
-    Derived { words, bound: u64::from(bound), assignment }
+    Derived { words, bound, assignment }
 }
 
 fn check(random: &mut Random, field: &Field, derived: &Derived) -> Call {
@@ -83,7 +83,7 @@ fn claimed(random: &mut Random, bound: u64) -> u64 {
     match random.below(16) {
         0 => bound + 1,
         1 => bound.saturating_sub(1),
-        2 => bound + (1 << random.pick(&[28, 32, 63])),
+        2 => bound + (1 << random.pick(&[28, 32, 56, 63])),
         3 => random.next(),
         _ => bound,
     }

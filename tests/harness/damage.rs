@@ -4,8 +4,8 @@ use plain::words::{payload, word};
 
 use crate::random::Random;
 
-const PAYLOADS: [u32; 16] = [
-    0, 1, 2, 8, 9, 12, 13, 0xFF, 0x800, 0xF00, 0x1000, 65_535, 65_536, 1_000_001, 0x0FF0_BDBF, 0x0FFF_FFFF,
+const PAYLOADS: [u32; 17] = [
+    0, 1, 2, 8, 9, 12, 13, 0xFF, 0x800, 0xF00, 0x1000, 65_535, 65_536, 1_000_001, 268_431_361, 0x0FF0_BDBF, 0x0FFF_FFFF,
 ];
 
 /// The words with one or two faults in a share of the cases, otherwise as they are.

@@ -1,6 +1,6 @@
 //! Random fields, and their sheets and instances as words.
 
-use plain::words::{binding, word, COST, EASTING, HEAD, NORTHING, SIZE};
+use plain::words::{binding, word, COST, EASTING, FORBIDDEN, HEAD, NORTHING, SIZE};
 
 use crate::random::Random;
 
@@ -9,7 +9,7 @@ const EDGES: [i32; 12] = [0, 1, 49, 50, 51, 100, 300, 400, 5_000, 70_711, 999_99
 
 pub struct Field {
     pub sizes: Vec<u32>,
-    /// Each entry's bindings and cost.
+    /// Each entry's bindings and the word that closes it.
     entries: Vec<(Vec<(usize, usize)>, u32)>,
 }
 
@@ -42,9 +42,10 @@ impl Field {
         let mut entries = Vec::new();
         for (variable, &size) in sizes.iter().enumerate() {
             for value in 0..size as usize {
-                entries.push((vec![(variable, value)], random.pick(&COSTS)));
+                entries.push((vec![(variable, value)], closing(random)));
                 for next in 0..sizes.get(variable + 1).map_or(0, |&size| size as usize) {
-                    entries.push((vec![(variable, value), (variable + 1, next)], random.below(40) as u32));
+                    let cost = word(COST, random.below(40) as u32);
+                    entries.push((vec![(variable, value), (variable + 1, next)], cost));
                 }
             }
         }
@@ -87,9 +88,9 @@ impl Field {
     }
 
     fn push_entries(&self, words: &mut Vec<u32>) {
-        for (bindings, cost) in &self.entries {
+        for (bindings, closing) in &self.entries {
             words.extend(bindings.iter().map(|&(variable, value)| binding(variable, value)));
-            words.push(word(COST, *cost));
+            words.push(*closing);
         }
     }
 
@@ -107,7 +108,16 @@ fn entry(random: &mut Random, sizes: &[u32]) -> (Vec<(usize, usize)>, u32) {
     let share = random.pick(&[0, 20, 20, 40, 60, 100]);
     let bound: Vec<usize> = (0..sizes.len()).filter(|_| random.percent(share)).collect();
     let bindings = bound.iter().map(|&variable| (variable, random.below(sizes[variable] as usize))).collect();
-    (bindings, random.pick(&COSTS))
+    (bindings, closing(random))
+}
+
+/// A cost, or in some of the cases the word that forbids.
+fn closing(random: &mut Random) -> u32 {
+    if random.percent(8) {
+        word(FORBIDDEN, 0)
+    } else {
+        word(COST, random.pick(&COSTS))
+    }
 }
 
 /// A coordinate in range, often near a limit or near half a metre.

@@ -7,7 +7,7 @@ use crate::comparison::Comparison;
 use crate::damage;
 use crate::fields::{centimetres, coordinate, Field};
 use crate::random::Random;
-use crate::tables::{encoded_rows, length};
+use crate::tables::{encoded_rows, length, ROW_WORDS};
 
 /// How many of a hundred inputs are damaged.
 const DAMAGED: usize = 40;
@@ -90,9 +90,9 @@ fn encode(random: &mut Random, field: &Field) -> Call {
     let length = match random.below(12) {
         0 => random.below(field.variables() + 3),
         1 => field.variables() + 1,
-        2 => field.variables() + random.between(2, 6),
+        2 => field.variables() + random.between(2, ROW_WORDS + 1),
         3 => needed - 1,
-        4..=6 => needed + random.below(5),
+        4..=6 => needed + random.below(ROW_WORDS),
         _ => needed + random.below(40),
     };
     Call::Encode { instance: damage::maybe(random, field.instance(), DAMAGED), table: random.words(length) }

@@ -1,12 +1,12 @@
 //! Calls near the limits of entries and rows.
 
-use plain::words::{payload, word, BINDING, COST};
+use plain::words::{payload, word, BINDING, COST, FORBIDDEN};
 
 use crate::call::Call;
 use crate::comparison::Comparison;
 use crate::fields::Field;
 use crate::random::Random;
-use crate::tables::{clause_of, length, table, MAX_WEIGHT};
+use crate::tables::{clause_of, length, table, MAX_WEIGHT, ROW_WORDS};
 
 const ENTRIES: usize = 4_096;
 const ROWS: usize = 4_096;
@@ -19,10 +19,10 @@ pub fn entries_round(random: &mut Random, comparison: &mut Comparison) {
     let field = Field::long(random, sizes.clone(), entries);
     let (mut instance, assignment) = (field.instance(), field.assignment(random));
     let mut sheet = Field::long(random, sizes, entries - legs).sheet(random);
-    if random.percent(30) {
-        let fault = random.pick(&[word(COST, 65_536), word(BINDING, 0)]);
-        *instance.last_mut().expect("an instance has words") = fault;
-        *sheet.last_mut().expect("a sheet has words") = fault;
+    if random.percent(50) {
+        let last = random.pick(&[word(COST, 65_536), word(BINDING, 0), word(FORBIDDEN, 0), word(FORBIDDEN, 1)]);
+        *instance.last_mut().expect("an instance has words") = last;
+        *sheet.last_mut().expect("a sheet has words") = last;
     }
     let calls = [
         Call::Make { sheet: sheet.clone(), target: random.words(13_000) },
@@ -50,7 +50,7 @@ pub fn rows_round(random: &mut Random, comparison: &mut Comparison) {
     let mut lent = vec![0; length(5, ROWS)];
     let rows = plain::encode(&field.instance(), &mut lent).expect("there is a row for every entry");
     let room = random.pick(&[rows - 1, rows, rows + 1, ROWS + 3]);
-    let spare = random.below(5);
+    let spare = random.below(ROW_WORDS);
     let table = random.words(length(5, room) + spare);
     comparison.make(random, Call::Encode { instance: field.instance(), table });
     full_table(random, comparison);
@@ -59,7 +59,7 @@ pub fn rows_round(random: &mut Random, comparison: &mut Comparison) {
 
 /// Calls on a table that one step fills to the last row or beyond, or that has one row too many.
 fn full_table(random: &mut Random, comparison: &mut Comparison) {
-    let mut rows = vec![([1, 0, 0], 1), ([2, 1, 0], random.between(1, 2) as u32), ([4, 2, 3], 1)];
+    let mut rows = vec![([1, 0, 0], 1), ([2, 1, 0], random.between(1, 2) as u64), ([4, 2, 3], 1)];
     rows.truncate(random.between(2, 3));
     let over = random.below(2);
     let fill = if random.percent(25) { ROWS + 1 - rows.len() } else { ROWS + over - rows_after_a_step(&rows) };
@@ -72,9 +72,10 @@ fn full_table(random: &mut Random, comparison: &mut Comparison) {
 }
 
 /// Completions of as many rows as there may be, whose lowest signs are equal, so that no pair is left: the cost of all of them is
-/// the greatest one, one more, 2 to the 32nd and a little, or far beyond.
+/// the greatest one, one more, 2 to the 64th and a little, or far beyond.
 fn all_falsified(random: &mut Random, comparison: &mut Comparison) {
-    let (weight, more) = random.pick(&[(65_535, 4_095), (65_535, 4_096), (1 << 20, 5), (MAX_WEIGHT, 0)]);
+    let share = MAX_WEIGHT / ROWS as u64;
+    let (weight, more) = random.pick(&[(share, 4_095), (share, 4_096), (1 << 52, 5), (MAX_WEIGHT, 0)]);
     let mut rows = vec![([2, 0, 0], weight + more)];
     rows.extend((1..ROWS as u32).map(|at| ([2, 2 * (at / 120), 2 * (at % 120)], weight)));
     rows.swap(0, random.below(ROWS));
@@ -85,14 +86,14 @@ fn all_falsified(random: &mut Random, comparison: &mut Comparison) {
     }
 }
 
-fn rows_after_a_step(rows: &[([u32; 3], u32)]) -> usize {
+fn rows_after_a_step(rows: &[([u32; 3], u64)]) -> usize {
     let mut table = table_of(rows, 50);
     plain::step(&mut table).expect("a step in a table with room");
     payload(table[4]) as usize
 }
 
 /// A table of three variables with room for so many rows.
-fn table_of(rows: &[([u32; 3], u32)], room: usize) -> Vec<u32> {
-    let rows: Vec<([u32; 4], u32)> = rows.iter().map(|(signs, weight)| (clause_of(signs), *weight)).collect();
+fn table_of(rows: &[([u32; 3], u64)], room: usize) -> Vec<u32> {
+    let rows: Vec<([u32; 4], u64)> = rows.iter().map(|(signs, weight)| (clause_of(signs), *weight)).collect();
     table(&[4, 8, 8], &rows, length(3, room))
 }

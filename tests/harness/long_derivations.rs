@@ -32,7 +32,7 @@ pub fn round(random: &mut Random, comparison: &mut Comparison) {
     let call = driven(random, &field, table_length);
     if let Call::Drive { instance, table, derivation, target, .. } = comparison.make(random, call) {
         let steps: Vec<u32> = derivation.into_iter().take_while(|&step| step != UNUSED).collect();
-        let claimed = u64::from(plain::run(&mut table.clone(), 0, &mut []).bound);
+        let claimed = plain::run(&mut table.clone(), 0, &mut []).bound;
         let assignment = target[..field.variables()].to_vec();
         for derivation in [steps.clone(), damage::maybe(random, steps, 100)] {
             let (instance, assignment, table) = (instance.clone(), assignment.clone(), table.clone());

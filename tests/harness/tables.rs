@@ -1,16 +1,33 @@
 //! Random tables: encoded instances in slices around the needed length, and rows of any signs and weights.
 
-use plain::words::{word, HEAD, ROW_COUNT, SIGNS, SIZE, WEIGHT};
+use plain::words::{payload, word, HEAD, HIGH_WEIGHT, PAYLOAD_BITS, ROW_COUNT, SIGNS, SIZE, WEIGHT};
 
 use crate::fields::Field;
 use crate::random::Random;
 
-pub const MAX_WEIGHT: u32 = 268_435_455;
-const HEAVY: [u32; 6] = [1, 2, 3, MAX_WEIGHT / 2, MAX_WEIGHT - 1, MAX_WEIGHT];
+pub const ROW_WORDS: usize = 6;
+pub const MAX_WEIGHT: u64 = (1 << 56) - 1;
+const FORBIDDEN_WEIGHT: u64 = 268_431_361;
+
+/// Weights around the limit, around that of the low word, and around that of a forbidden entry.
+const HEAVY: [u64; 12] = [
+    1,
+    2,
+    3,
+    FORBIDDEN_WEIGHT - 1,
+    FORBIDDEN_WEIGHT,
+    (1 << PAYLOAD_BITS) - 1,
+    1 << PAYLOAD_BITS,
+    (1 << PAYLOAD_BITS) + 1,
+    MAX_WEIGHT / 2,
+    MAX_WEIGHT - 1,
+    MAX_WEIGHT,
+    MAX_WEIGHT,
+];
 
 /// The length of a slice with room for so many rows.
 pub fn length(variables: usize, rows: usize) -> usize {
-    variables + 2 + 5 * rows
+    variables + 2 + ROW_WORDS * rows
 }
 
 /// The number of rows of a field's encoding.
@@ -25,15 +42,15 @@ pub fn any_length(random: &mut Random, field: &Field) -> usize {
     match random.below(16) {
         0 => random.below(field.variables() + 3),
         1 => length(field.variables(), random.below(rows + 1)),
-        2..=5 => length(field.variables(), rows + random.below(6)) + random.below(5),
-        _ => length(field.variables(), rows + random.between(20, 200)) + random.below(5),
+        2..=5 => length(field.variables(), rows + random.below(6)) + random.below(ROW_WORDS),
+        _ => length(field.variables(), rows + random.between(20, 200)) + random.below(ROW_WORDS),
     }
 }
 
 /// The table of a field with little or much room for more rows.
 pub fn encoded(random: &mut Random, field: &Field) -> Vec<u32> {
     let rows = encoded_rows(field) + random.pick(&[0, 0, 1, 2, 3, 6, 60, 60, 200]);
-    let mut table = vec![0; length(field.variables(), rows) + random.below(5)];
+    let mut table = vec![0; length(field.variables(), rows) + random.below(ROW_WORDS)];
     plain::encode(&field.instance(), &mut table).expect("the rows fit");
     table
 }
@@ -50,19 +67,20 @@ pub fn any_rows(random: &mut Random, sizes: &[u32], most: usize) -> Vec<u32> {
     }
     let room = clauses.len() + random.pick(&[0, 0, 1, 2, 5, 60]);
     let light = random.percent(40);
-    let weights = clauses.iter().map(|_| if light { random.between(1, 9) as u32 } else { random.pick(&HEAVY) });
-    let rows = clauses.iter().copied().zip(weights.collect::<Vec<u32>>()).collect::<Vec<_>>();
-    table(sizes, &rows, length(sizes.len(), room) + random.below(5))
+    let weights = clauses.iter().map(|_| if light { random.between(1, 9) as u64 } else { random.pick(&HEAVY) });
+    let rows = clauses.iter().copied().zip(weights.collect::<Vec<u64>>()).collect::<Vec<_>>();
+    table(sizes, &rows, length(sizes.len(), room) + random.below(ROW_WORDS))
 }
 
 /// The slice of this length that holds a table of these rows, zero past them.
-pub fn table(sizes: &[u32], rows: &[([u32; 4], u32)], length: usize) -> Vec<u32> {
+pub fn table(sizes: &[u32], rows: &[([u32; 4], u64)], length: usize) -> Vec<u32> {
     let mut table = vec![word(HEAD, sizes.len() as u32)];
     table.extend(sizes.iter().map(|&size| word(SIZE, size)));
     table.push(word(ROW_COUNT, rows.len() as u32));
     for (clause, weight) in rows {
         table.extend(clause);
-        table.push(word(WEIGHT, *weight));
+        table.push(word(WEIGHT, payload(*weight as u32)));
+        table.push(word(HIGH_WEIGHT, (*weight >> PAYLOAD_BITS) as u32));
     }
     table.resize(length, 0);
     table

@@ -54,7 +54,7 @@ fn ran(ran: plain::Ran) -> (u32, Vec<u64>) {
         Outcome::Refused(Refusal::BadTable) => (Refusal::BadTable.number(), 0),
         Outcome::Refused(refusal) => (refusal.number(), 2),
     };
-    (number, vec![outcome, ran.steps as u64, u64::from(ran.bound)])
+    (number, vec![outcome, ran.steps as u64, ran.bound])
 }
 
 fn checked(checked: plain::Checked) -> (u32, Vec<u64>) {
