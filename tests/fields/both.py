@@ -11,7 +11,7 @@ import reference
 from different import Different
 from proved import BYTE, FIELD, SIZE, WORD, Slice, call
 from reference import inputs, words
-from reference.answers import BAD_TABLE, GOOD
+from reference.answers import ALL_FORBIDDEN, BAD_TABLE, GOOD
 from reference.steps import DONE, PAUSED, REFUSED
 
 OUTCOMES = {DONE: 0, PAUSED: 1, REFUSED: 2}
@@ -151,11 +151,12 @@ class Both:
 
     def on_table(self, table):
         """A step, runs, plans and completions, each on the same table; where it is not valid, 9 comes before the short
-        target's 10 and the 14 of what is fixed."""
+        target's 10 and the 14 of what is fixed. Where all is forbidden, every value is rebuilt by a completion alone."""
         self.step(table)
         self.run(table, RUN_LIMIT, [9] * (RUN_LIMIT + 1))
         self.run(table, RUN_LIMIT, [9] * 2)
-        self.plan(table, [200] * 13)
+        if self.plan(table, [200] * 13).number == ALL_FORBIDDEN:
+            self.complete(table, named_variables(table), [], [200] * 13)
         self.plan(table, [])
         self.complete(table, 1, [0] * (named_variables(table) - 1), [200] * 13)
         self.complete(table, SIZE_MAX, [], [])

@@ -5,11 +5,12 @@ import random
 import driver
 import reference
 from both import row_total
-from chosen import GROWING, long_chain, random_field
+from chosen import ALL_FORBIDDEN, GROWING, ONE_LEFT, long_chain, random_field
 from lists import SMALL_FIELDS
 from records import recorded
 from reference import fields, words
 from reference.answers import GOOD
+from reference.limits import ROW_WORDS
 
 LISTS = 4_000
 MOST_CALLS = 15
@@ -43,7 +44,7 @@ def table_length(chance, instance, variables):
     encoding = reference.encode(instance, [0] * 500)
     rows = row_total(encoding.table) if encoding.number == GOOD else 0
     rows = max(0, rows + chance.choice([-1, 0, 0, 1, 2, 3, 4, 100, 100, 100]))
-    length = fields.table_length(variables, rows, chance.randrange(5))
+    length = fields.table_length(variables, rows, chance.randrange(ROW_WORDS))
     return length if chance.random() < 0.95 else chance.randrange(variables + 2)
 
 
@@ -78,7 +79,7 @@ def to_the_end(both, field):
 
 def compare(both):
     chance = random.Random(8)
-    for field in SMALL_FIELDS + [GROWING, long_chain()]:
+    for field in SMALL_FIELDS + [GROWING, ALL_FORBIDDEN, ONE_LEFT, long_chain()]:
         to_the_end(both, field)
     for _ in range(LISTS):
         random_list(both, chance, random_field(chance))

@@ -2,17 +2,19 @@
 around the greatest, and every choice of last values in larger fields; small_fields has those of every small field."""
 
 import random
+from collections import Counter
 from itertools import product
 
 import reference
 from both import SIZE_MAX, named_variables
-from chosen import GROWING, chain, long_chain, random_field
+from chosen import ALL_FORBIDDEN, GROWING, ONE_LEFT, chain, long_chain, random_field, scattered
 from different import Different, require
 from lists import SMALL_FIELDS
 from records import ROWS, STEPS
 from reference import fields
+from reference.answers import ALL_FORBIDDEN as NO_PLAN
 from reference.answers import BAD_FIXED, BAD_TABLE, GOOD, PAIR_LEFT, TARGET_TOO_SHORT, WEIGHT_TOO_HIGH
-from reference.limits import MAX_ROWS, MAX_WEIGHT
+from reference.limits import FORBIDDEN_WEIGHT, MAX_ROWS, MAX_WEIGHT
 from reference.steps import DONE
 from reference.tables import Row, read_table, table_words
 
@@ -21,12 +23,20 @@ ORDER = [BAD_TABLE, TARGET_TOO_SHORT, BAD_FIXED, PAIR_LEFT, WEIGHT_TOO_HIGH]
 WRONGLY_FIXED = [(3, []), (3, [0]), (SIZE_MAX, [0, 0, 0]), (1, []), (1, [0, 0]), (2, [0]), (0, [0]), (1, [2]), (0, [3, 0]),
                  (0, [255, 0])]
 RANDOM_TABLES = 400
+FORBIDDEN_FIELDS = 60
 OTHER_SIZES = [3, 1, 8, 2]
 
 
 def paid(entries, assignment):
     """What an assignment costs by the entries of its field."""
     return sum(cost for bindings, cost in entries if all(assignment[variable] == value for variable, value in bindings))
+
+
+def all_forbidden(sizes, entries):
+    """Whether every assignment has all bindings of some forbidden entry."""
+    banned = [bindings for bindings, cost in entries if cost == FORBIDDEN_WEIGHT]
+    return bool(banned) and all(any(all(assignment[variable] == value for variable, value in bindings) for bindings in banned)
+                                for assignment in product(*map(range, sizes)))
 
 
 def least_costs(sizes, entries):
@@ -64,6 +74,19 @@ def larger_fields(both):
     """Every choice of last values where a row has more than two signs, and where all sign words are in use."""
     for field in [GROWING, chain(random.Random(3), [3, 2, 2]), chain(random.Random(4), [2, 3, 2, 2]), long_chain()]:
         completed(both, *field, finished(field))
+
+
+def forbidden_fields(both):
+    """Every choice of last values beside forbidden entries; there is a plan unless all assignments are forbidden."""
+    chance = random.Random(10)
+    numbers = Counter()
+    for field in [ALL_FORBIDDEN, ONE_LEFT] + [scattered(chance, [2, 3, 2], 14) for _ in range(FORBIDDEN_FIELDS)]:
+        table = finished(field)
+        completed(both, *field, table)
+        number = both.plan(table, [9] * len(field[0])).number
+        require((number == NO_PLAN) == all_forbidden(*field), f"{number} for the plan of {field}")
+        numbers[number] += 1
+    require(min(numbers[GOOD], numbers[NO_PLAN]) > 10, f"hardly reached: {numbers}")
 
 
 def faulty_table(numbers):
@@ -154,7 +177,8 @@ def most_rows(both):
 def with_weights(chance, table):
     """The table with other weights, which decide nothing about a pair: light ones, heavy ones, or both."""
     sizes, rows = read_table(table)
-    weights = chance.choice([[1, 2, 3], [MAX_WEIGHT], [1, MAX_WEIGHT - 1, MAX_WEIGHT], [MAX_WEIGHT // 8, MAX_WEIGHT // 3]])
+    weights = chance.choice([[1, 2, 3], [MAX_WEIGHT], [1, MAX_WEIGHT - 1, MAX_WEIGHT], [MAX_WEIGHT // 8, MAX_WEIGHT // 3],
+                             [FORBIDDEN_WEIGHT, 1], [(1 << 28) - 1, 1 << 28, 1]])
     return table_words(sizes, [Row(row.signs, chance.choice(weights)) for row in rows], len(table))
 
 
@@ -173,6 +197,7 @@ def random_tables(both):
 
 def compare(both):
     larger_fields(both)
+    forbidden_fields(both)
     refusals_in_order(both)
     fixed_bounds(both)
     high_k(both)

@@ -3,11 +3,11 @@
 import random
 
 import reference
-from chosen import GROWING, chain, long_chain, scattered
+from chosen import ALL_FORBIDDEN, GROWING, chain, long_chain, scattered
 from lists import SMALL_FIELDS
 from records import ROWS, stepped
 from reference import fields, words
-from reference.limits import MAX_WEIGHT, ROW_WORDS
+from reference.limits import FORBIDDEN_WEIGHT, MAX_WEIGHT, ROW_WORDS, SIGN_WORDS
 from reference.tables import read_table, rows_start
 
 RANDOM_FLIPS = 250
@@ -19,7 +19,7 @@ def on_the_way(field, spare):
     start = reference.encode(fields.instance(*field), [0] * fields.table_length(len(field[0]), ROWS)).table
     _, tables = stepped(start)
     chosen = [start, tables[len(tables) // 2], tables[-1]]
-    return [shortened(table, spare + 5 * more) for more, table in enumerate(chosen)]
+    return [shortened(table, spare + ROW_WORDS * more) for more, table in enumerate(chosen)]
 
 
 def shortened(table, spare):
@@ -40,6 +40,11 @@ def with_word(table, at, word):
 
 def with_row(table, at, row):
     return table[:at] + row + table[at + ROW_WORDS:]
+
+
+def with_weight(table, at, weight_words):
+    """The table with other words for the weight of the row at this place."""
+    return table[:at + SIGN_WORDS] + weight_words + table[at + ROW_WORDS:]
 
 
 def all_bits(table):
@@ -63,7 +68,8 @@ def random_words(chance, table):
         at, other = chance.randrange(len(table)), chance.choice(table)
         payload = words.payload_of(table[at])
         word = chance.choice([other, words.word(chance.randrange(16), payload), words.signs(chance.randrange(4), [1, 0, 0]),
-                              words.weight(0), words.weight(MAX_WEIGHT), words.row_count(payload + 1)])
+                              words.weight(0), words.weight(words.PAYLOAD_MASK), words.high_weight(0),
+                              words.high_weight(words.PAYLOAD_MASK), words.forbidden(), words.row_count(payload + 1)])
         yield with_word(table, at, word)
 
 
@@ -81,7 +87,7 @@ def doubled_rows(table):
     for first, second in zip(places, places[1:] + places[:1]):
         row = table[first:first + ROW_WORDS]
         yield with_row(table, second, row)
-        yield with_row(table, second, row[:-1] + [table[second + ROW_WORDS - 1]])
+        yield with_row(table, second, row[:SIGN_WORDS] + table[second + SIGN_WORDS:second + ROW_WORDS])
     if places:
         count_at, end = places[0] - 1, places[-1] + ROW_WORDS
         more = with_word(table, count_at, table[count_at] + 1)
@@ -91,14 +97,32 @@ def doubled_rows(table):
 def heavy_rows(table):
     """Weights at the greatest one, in all rows, in one, in all but one: a step would pass it (11)."""
     places = row_places(table)
-    weights = [place + ROW_WORDS - 1 for place in places]
-    heavy = list(table)
-    for at in weights:
-        heavy[at] = words.weight(MAX_WEIGHT)
+    heavy = table
+    for at in places:
+        heavy = with_weight(heavy, at, words.weight_words(MAX_WEIGHT))
     yield heavy
-    for at in weights:
-        yield with_word(table, at, words.weight(MAX_WEIGHT))
-        yield with_word(heavy, at, table[at])
+    for at in places:
+        yield with_weight(table, at, words.weight_words(MAX_WEIGHT))
+        yield with_weight(heavy, at, table[at + SIGN_WORDS:at + ROW_WORDS])
+
+
+def other_weights(table):
+    """In every row weights around the limit of the low word and that of a forbidden entry; two words that are no weight: both 0,
+    in the other order, of one kind."""
+    for at in row_places(table):
+        for weight in ((1 << 28) - 1, 1 << 28, FORBIDDEN_WEIGHT - 1, FORBIDDEN_WEIGHT):
+            yield with_weight(table, at, words.weight_words(weight))
+        low, high = table[at + SIGN_WORDS:at + ROW_WORDS]
+        for wrong in ([words.weight(0), words.high_weight(0)], [high, low], [low, low], [high, high]):
+            yield with_weight(table, at, wrong)
+
+
+def narrow_rows(table):
+    """Rows of five words, in a slice as long and in one that ends with them: 9 unless there is no row."""
+    start = rows_start(words.payload_of(table[0]))
+    rows = [word for at in row_places(table) for word in table[at:at + ROW_WORDS - 1]]
+    yield table[:start] + rows
+    yield table[:start] + rows + [0] * (len(table) - start - len(rows))
 
 
 def other_lengths(table):
@@ -124,7 +148,7 @@ def other_counts(table):
 def changed(chance, table):
     """The damage that every table gets."""
     yield table
-    for damage in (swapped_rows, doubled_rows, heavy_rows, other_lengths, other_counts):
+    for damage in (swapped_rows, doubled_rows, heavy_rows, other_weights, narrow_rows, other_lengths, other_counts):
         yield from damage(table)
     yield from random_bits(chance, table)
     yield from random_words(chance, table)
@@ -133,11 +157,11 @@ def changed(chance, table):
 def compare(both):
     chance = random.Random(6)
     for index, field in enumerate(SMALL_FIELDS + [GROWING, chain(chance, [3, 2])]):
-        for table in on_the_way(field, index % 5):
+        for table in on_the_way(field, index % ROW_WORDS):
             for spoiled in all_bits(table):
                 both.on_table(spoiled)
     larger = [chain(chance, [3, 2, 3]), long_chain(), scattered(chance, [3] * 4, 12), scattered(chance, [8, 5, 2], 14)]
-    for index, field in enumerate(SMALL_FIELDS[:4] + [GROWING] + larger):
-        for table in on_the_way(field, index % 5):
+    for index, field in enumerate(SMALL_FIELDS[:4] + [GROWING, ALL_FORBIDDEN] + larger):
+        for table in on_the_way(field, index % ROW_WORDS):
             for spoiled in changed(chance, table):
                 both.on_table(spoiled)

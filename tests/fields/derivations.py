@@ -3,10 +3,11 @@
 import random
 from itertools import chain as chain_of
 
-from chosen import GROWING, chain, long_chain, scattered
+from chosen import ALL_FORBIDDEN, GROWING, ONE_LEFT, chain, long_chain, scattered
 from lists import SMALL_FIELDS
 from records import recorded
 from reference import fields, words
+from reference.limits import ROW_WORDS
 from reference.resolution import permitted
 from reference.tables import read_table
 
@@ -61,7 +62,8 @@ def all_steps(record):
 
 def wrong_claims(record):
     """Costs beside the right one, also with high bits set, and plans that are cut, too long, dearer or out of range."""
-    for cost in (0, 1, record.cost - 1, record.cost + 1, record.cost + (1 << 32), record.cost + (1 << 63), (1 << 64) - 1):
+    for cost in (0, 1, record.cost - 1, record.cost + 1, record.cost % (1 << 28), record.cost + (1 << 28), record.cost + (1 << 32),
+                 record.cost + (1 << 56), record.cost + (1 << 63), (1 << 64) - 1):
         if cost >= 0:
             yield record._replace(cost=cost)
     for at in range(len(record.plan)):
@@ -83,7 +85,8 @@ def faulty_instances(chance, record):
     """Faults 1 to 5 come first, whatever else is wrong."""
     for length in range(len(record.instance)):
         yield record._replace(instance=record.instance[:length])
-    for end in ([words.cost(65_536)], [words.cost(0)] * 4_096, [words.binding(0, 0)]):
+    for end in ([words.cost(65_536)], [words.cost(0)] * 4_096, [words.binding(0, 0)], [words.forbidden(1)],
+                [words.forbidden()] * 4_096):
         for length in (0, record.length):
             yield record._replace(instance=record.instance + end, derivation=[0], plan=[], length=length)
     for _ in range(40):
@@ -104,7 +107,7 @@ def random_derivation(both, chance, field):
     """Permitted steps in any order, each with the claim that the table then allows or another; at times in a short table."""
     variables = len(field[0])
     instance, rows = fields.instance(*field), chance.choice([6, 12, 100, 100])
-    derivation, length = [], fields.table_length(variables, rows, chance.randrange(5))
+    derivation, length = [], fields.table_length(variables, rows, chance.randrange(ROW_WORDS))
     answer = both.check(instance, [], [0] * variables, 0, [9] * length)
     while answer.number in (0, 7) and len(derivation) < MOST_STEPS:
         choice = permitted_words(answer.table)
@@ -123,8 +126,9 @@ def changed(record):
 
 def short_records(both, chance):
     """All damage, each bit of each word included."""
-    for index, field in enumerate(SMALL_FIELDS + [GROWING, chain(chance, [3, 2]), chain(chance, [2, 2, 2])]):
-        record = recorded(field, index % 5)
+    chains = [chain(chance, [3, 2]), chain(chance, [2, 2, 2])]
+    for index, field in enumerate(SMALL_FIELDS + [GROWING, ALL_FORBIDDEN, ONE_LEFT] + chains):
+        record = recorded(field, index % ROW_WORDS)
         for spoiled in chain_of(changed(record), flipped_bits(record), faulty_instances(chance, record)):
             check(both, spoiled)
 

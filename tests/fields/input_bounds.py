@@ -1,9 +1,10 @@
-"""The bounds of an input through every call that reads one: stations, costs, entries with legs counted, targets."""
+"""The bounds of an input through every call that reads one: stations, costs, entries with legs counted, forbidden ones, targets."""
 
 import driver
 from reference import fields, words
 from reference.answers import GOOD
 from reference.inputs import instance_of, instance_words, read_sheet
+from reference.limits import FORBIDDEN_WEIGHT
 
 HERE = (0, 0)
 MOST_ENTRIES = 4_096
@@ -12,7 +13,7 @@ MOST_ENTRIES = 4_096
 def instance_calls(both, instance):
     """The calls that read an instance, with room for forty rows."""
     plan = [0] * (instance[0] & 15)
-    length = len(plan) + 2 + 5 * 40
+    length = fields.table_length(len(plan), 40)
     _, paid = both.cost(instance, plan)
     both.encode(instance, [9] * length)
     both.check(instance, [], plan, paid, [9] * length)
@@ -60,14 +61,39 @@ def ends_of_entries():
     """What may stand where the last entry ends or the one too many begins."""
     pair, cost = words.binding(0, 0), words.cost
     return [[], [cost(0)], [cost(65_535)], [cost(65_536)], [pair], [pair, cost(1)], [pair, pair, cost(1)],
-            [words.binding(15, 0), cost(1)], [cost(1), cost(65_536)], [words.word(11, 0)]]
+            [words.binding(15, 0), cost(1)], [cost(1), cost(65_536)], [words.forbidden()], [words.forbidden(1)],
+            [pair, words.forbidden()], [words.high_weight(0)]]
 
 
 def entry_bounds(both):
-    """4,095 and 4,096 entries of the greatest cost, and what follows."""
-    for entries in (MOST_ENTRIES - 1, MOST_ENTRIES):
-        for end in ends_of_entries():
-            instance_calls(both, fields.instance([2], [([(0, 1)], 65_535)] * entries) + end)
+    """4,095 and 4,096 entries of the greatest cost or forbidden, and what follows."""
+    for cost in (65_535, FORBIDDEN_WEIGHT):
+        for entries in (MOST_ENTRIES - 1, MOST_ENTRIES):
+            for end in ends_of_entries():
+                instance_calls(both, fields.instance([2], [([(0, 1)], cost)] * entries) + end)
+
+
+def forbidden_words(both):
+    """The word that forbids, good and with each unnamed bit, and a weight's high word, in the place of every word."""
+    entries = [fields.forbidden((0, 0), (1, 1)), ([(1, 0)], 3)]
+    given = [words.forbidden(), words.high_weight(0), words.high_weight(1)] + [words.forbidden(1 << bit) for bit in range(28)]
+    instance, sheet = fields.instance([1, 2], entries), fields.sheet([[HERE], [HERE, HERE]], entries)
+    for word in given:
+        for at in range(len(instance) + 1):
+            instance_calls(both, instance[:at] + [word] + instance[at + 1:])
+        for at in range(len(sheet) + 1):
+            sheet_calls(both, sheet[:at] + [word] + sheet[at + 1:])
+
+
+def forbidden_claims(both):
+    """The cost of so many forbidden entries, claims beside it and with other high bits; no plan, but a completion."""
+    for count in (1, 2, 15, 16, 17, MOST_ENTRIES - 1, MOST_ENTRIES):
+        instance, length = fields.instance([1], [fields.forbidden()] * count), fields.table_length(1, 1)
+        _, paid = both.cost(instance, [0])
+        for claimed in (paid, paid - 1, paid + 1, paid & words.PAYLOAD_MASK, paid & 0xFFFFFFFF, paid + (1 << 56), paid + (1 << 63)):
+            both.check(instance, [], [0], claimed, [9] * length)
+        both.on_table(both.encode(instance, [9] * length).table)
+        both.drive(instance, [9] * length, [driver.plan_word(2)], [9], [9] * 2)
 
 
 def leg_bounds(both):
@@ -75,7 +101,8 @@ def leg_bounds(both):
     for stations, size in ((1, 8), (2, 1), (2, 8), (12, 8)):
         legs = (stations - 1) * size * size
         for entries in (MOST_ENTRIES - 1 - legs, MOST_ENTRIES - legs):
-            sheet = fields.sheet([[HERE] * size] * stations, [([], 1)] * entries)
+            every_other = [fields.forbidden() if at % 2 else ([], 1) for at in range(entries)]
+            sheet = fields.sheet([[HERE] * size] * stations, every_other)
             for end in ends_of_entries():
                 sheet_calls(both, sheet + end)
 
@@ -84,4 +111,6 @@ def compare(both):
     station_bounds(both)
     cost_bounds(both)
     entry_bounds(both)
+    forbidden_words(both)
+    forbidden_claims(both)
     leg_bounds(both)

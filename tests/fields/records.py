@@ -37,6 +37,7 @@ def recorded(field, spare=0):
     start = reference.encode(instance, [0] * fields.table_length(variables, ROWS)).table
     derivation, tables = stepped(start)
     ran = reference.run_call(start, STEPS, [0] * STEPS)
-    plan = reference.plan_call(ran.table, [0] * variables).target
+    # As the plan, also where all are forbidden.
+    plan = reference.complete_call(ran.table, variables, [], [0] * variables).target
     most_rows = max(len(read_table(table).rows) for table in tables)
     return Record(instance, derivation, plan, ran.bound, fields.table_length(variables, most_rows, spare))

@@ -18,11 +18,12 @@ INTERESTING = [0, 1, 0xFFFFFFFF] + [
 
 
 def good_sheets():
-    """A dozen accepted sheets: one station to twelve, travel, constants, empty entries, bounds."""
+    """A dozen accepted sheets: one station to twelve, travel, constants, empty entries, forbidden ones, bounds."""
     chance = random.Random(1)
     sheets = [fields.sheet([[(0, 0)], [(300, 400), (600, 800)]], [([(1, 0)], 9)]),
               fields.sheet([[(-1000000, 1000000)]], []),
-              fields.sheet([[(0, 0)] * 8], [([], 65535), ([], 0)])]
+              fields.sheet([[(0, 0)] * 8], [([], 65535), ([], 0)]),
+              fields.sheet([[(0, 0)], [(0, 0)] * 2], [fields.forbidden((0, 0), (1, 1)), fields.forbidden(), ([(1, 0)], 65535)])]
     for stations in (2, 3, 4, 5, 6, 8, 10, 11, 12):
         places = [[(chance.randint(-1000000, 1000000), chance.randint(-1000000, 1000000))
                    for _ in range(chance.randint(1, 3))] for _ in range(stations)]
@@ -88,9 +89,12 @@ def bounds():
         yield one + [words.cost(cost)]
     for entries in (4096, 4097):
         yield one + [words.cost(0)] * entries
+        yield one + [words.forbidden()] * entries
+    yield one + [words.forbidden()] * 4096 + [words.forbidden(1)]
     two = fields.sheet([[(0, 0)] * 8] * 2, [])
     for entries in (4096 - 64, 4097 - 64):
         yield two + [words.cost(1)] * entries
+        yield two + [words.forbidden()] * entries
 
 
 def instance_bounds():
@@ -102,6 +106,8 @@ def instance_bounds():
         yield one + [words.cost(cost)]
     for entries in (4096, 4097):
         yield one + [words.cost(1)] * entries
+        yield one + [words.forbidden()] * entries
+    yield one + [words.forbidden()] * 4096 + [words.forbidden(1)]
 
 
 def room_for(sheet):

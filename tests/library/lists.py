@@ -10,7 +10,7 @@ from different import require
 from reference import fields
 from reference.answers import BAD_TABLE
 from reference.clauses import full
-from reference.limits import MAX_WEIGHT
+from reference.limits import FORBIDDEN_WEIGHT, MAX_WEIGHT, ROW_WORDS
 from reference.tables import Row, read_table, table_words
 
 OUTCOMES = {"done": 0, "paused": 1, "refused": 2}
@@ -29,7 +29,7 @@ SMALL_FIELDS = [
 DUE = ([("encode", number) for number in (0, 1, 2, 3, 4, 5, 10, 12)]
        + [("step", "done"), ("step", "stepped"), ("step", 9), ("step", 11), ("step", 12)]
        + [("run", "done"), ("run", "paused"), ("run", 9), ("run", 11), ("run", 12)]
-       + [("plan", number) for number in (0, 9, 10, 13)]
+       + [("plan", number) for number in (0, 9, 10, 13, 15)]
        + [("complete", number) for number in (0, 9, 10, 11, 13, 14)])
 reached = Counter()
 
@@ -138,7 +138,8 @@ def random_field(chance):
     entries = []
     for _ in range(chance.randint(0, 14)):
         bound = sorted(chance.sample(range(variables), chance.randint(0, min(variables, 3))))
-        entries.append(([(v, chance.randrange(sizes[v])) for v in bound], chance.choice([0, 1, 2, 5, 300, 65535])))
+        entries.append(([(v, chance.randrange(sizes[v])) for v in bound],
+                        chance.choice([0, 1, 2, 5, 300, 65535, FORBIDDEN_WEIGHT])))
     return sizes, entries
 
 
@@ -152,19 +153,22 @@ def list_of_calls(field, chance):
     sizes, entries = field
     instance = fields.instance(sizes, entries)
     rows = max(rows_of(field) + chance.choice([-1, 0, 0, 1, 2, 5, 40, 40]), 0)
-    length = chance.choice([fields.table_length(len(sizes), rows, chance.randrange(5))] * 9 + [len(sizes) + 1])
+    length = chance.choice([fields.table_length(len(sizes), rows, chance.randrange(ROW_WORDS))] * 9 + [len(sizes) + 1])
     table = encode(instance, [4] * length, [77] * chance.choice([0, 1, 2]))
     calls_on(table, len(sizes), instance, chance)
 
 
 def heavy_list(chance):
-    """Calls on a valid table that need not come from an instance, with weights at the limit."""
+    """Calls on a valid table that need not come from an instance, with weights around the limits: of all, of the low word, of a
+    forbidden entry."""
     sizes = [chance.randint(2, 4) for _ in range(chance.choice([1, 2, 3, 4, 12]))]
     clauses = {tuple(chance.choice([0, chance.randrange(full(size))]) for size in sizes)
                for _ in range(chance.randint(1, 9))}
-    rows = [Row(signs, chance.choice([1, 3, MAX_WEIGHT - 3, MAX_WEIGHT])) for signs in sorted(clauses)]
+    weights = chance.choice([[1, 3, MAX_WEIGHT - 3, MAX_WEIGHT], [(1 << 28) - 1, 1 << 28, 1],
+                             [FORBIDDEN_WEIGHT - 1, FORBIDDEN_WEIGHT]])
+    rows = [Row(signs, chance.choice(weights)) for signs in sorted(clauses)]
     chance.shuffle(rows)
-    length = fields.table_length(len(sizes), len(rows) + chance.choice([0, 1, 2, 30]), chance.randrange(5))
+    length = fields.table_length(len(sizes), len(rows) + chance.choice([0, 1, 2, 30]), chance.randrange(ROW_WORDS))
     calls_on(table_words(sizes, rows, length), len(sizes), fields.instance(sizes, []), chance)
 
 
