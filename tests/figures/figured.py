@@ -12,9 +12,9 @@ figured_to_full = partial(planned_to_full, command=SEASON)
 # Seconds, more than anything here takes; only a failing check waits so long.
 PATIENCE = 60
 
-NONE = b"0 0 0 0 0 0 0 0 0 0 0 0 0\n"
-ONE_REFUSED = b"0 1 0 0 0 0 0 0 0 0 0 0 0\n"
-THREE = b"3 0 0 0 0 0 0 0 0 0 606 312 3\n"
+NONE = b"0 0 0 0 0 0 0 0 0 0 0 0 0 0\n"
+ONE_REFUSED = b"0 1 0 0 0 0 0 0 0 0 0 0 0 0\n"
+THREE = b"3 0 0 0 0 0 0 0 0 0 0 606 312 3\n"
 
 
 def figured_from(stdin, command=SEASON, **options):

@@ -4,7 +4,8 @@ import random
 from itertools import combinations, islice, product
 
 from reference import words
-from reference.fields import as_bytes, sheet
+from reference.fields import as_bytes, forbidden, growing_sheet, sheet
+from reference.limits import FORBIDDEN_WEIGHT
 
 HERE = (0, 0)
 FAR = 1_000_000
@@ -22,13 +23,13 @@ def spread(seed, stations, spots, width, highest):
     return places, [([(station, spot)], rng.randint(1, highest)) for station in range(stations) for spot in range(spots)]
 
 
-def combined(seed, stations, spots, width, entry_total):
+def combined(seed, stations, spots, width, entry_total, costs=(1, 7, 50, 65_535)):
     """The same with costs of combinations of up to four stations, and a constant one."""
     places, entries = spread(seed, stations, spots, width, 90)
     rng = random.Random(seed + 1)
     for _ in range(entry_total):
         bound = sorted(rng.sample(range(stations), rng.randint(2, min(stations, 4))))
-        entries.append(([(station, rng.randrange(spots)) for station in bound], rng.choice([1, 7, 50, 65_535])))
+        entries.append(([(station, rng.randrange(spots)) for station in bound], rng.choice(costs)))
     return places, entries + [([], 12)]
 
 
@@ -38,7 +39,7 @@ def plans():
     yield "rounded", ROUNDED
     yield "one-station", sheet([[HERE, HERE]], [])
     yield "one-spot", sheet([[(5, 5)]], [([(0, 0)], 7)])
-    yield "all-forbidden", sheet([[HERE, HERE]], [([(0, 0)], 65_535), ([(0, 1)], 65_535)])
+    yield "all-at-65535", sheet([[HERE, HERE]], [([(0, 0)], 65_535), ([(0, 1)], 65_535)])
     yield "corners", sheet([[(-FAR, -FAR), (FAR, -FAR)], [(FAR, FAR)], [(-FAR, -FAR), (-FAR, FAR)]], [])
     yield "greatest-cost", sheet([[HERE]], [([], 65_535)] * 4_096)
     yield "spread-3x8", sheet(*spread(3, 3, 8, 30_000, 300))
@@ -47,6 +48,29 @@ def plans():
     yield "combined-5x3", sheet(*combined(6, 5, 3, 20_000, 12))
     yield "combined-8x2", sheet(*combined(7, 8, 2, 20_000, 25))
     yield "combined-12x2", sheet(*combined(8, 12, 2, 20_000, 12))
+
+
+def some_forbidden():
+    """Fields with forbidden spots and combinations in which a plan is left."""
+    yield "one-spot-left", sheet([[HERE] * 3], [forbidden((0, 0)), ([(0, 1)], 65_535), forbidden((0, 2))])
+    yield "dearer-than-65535", sheet([[HERE] * 2], [forbidden((0, 0))] + [([(0, 1)], 40_000)] * 3)
+    yield "nearest-spot-forbidden", sheet([[HERE], [(300, 400), (600, 800)]], [forbidden((0, 0), (1, 0))])
+    pairs = [forbidden((0, spot), (1, other)) for spot in range(3) for other in range(3) if (spot, other) != (2, 1)]
+    yield "one-combination-left", sheet([[HERE] * 3, [(100, 0)] * 3], pairs)
+    yield "forbidden-5x3", sheet(*combined(6, 5, 3, 20_000, 12, (1, 50, FORBIDDEN_WEIGHT)))
+    yield "forbidden-8x2", sheet(*combined(7, 8, 2, 20_000, 25, (7, 65_535, FORBIDDEN_WEIGHT)))
+
+
+def all_forbidden():
+    """No plan without a forbidden combination."""
+    yield "15-constant", sheet([[HERE]], [forbidden()])
+    yield "15-one-spot", sheet([[HERE]], [forbidden((0, 0))])
+    yield "15-all-spots", sheet([[HERE, HERE]], [forbidden((0, 0)), forbidden((0, 1))])
+    pairs = [forbidden((0, spot), (1, other)) for spot in range(3) for other in range(3)]
+    yield "15-all-combinations", sheet([[HERE] * 3, [(100, 0)] * 3], pairs)
+    yield "15-beside-65535", sheet([[HERE]], [([], 65_535)] * 4_095 + [forbidden()])
+    yield "15-after-steps", sheet(*combined(6, 5, 3, 20_000, 12, (1, 50))) + [words.forbidden()]
+    yield "15-4096-forbidden-entries", EXAMPLE + [words.forbidden()] * 4_093
 
 
 def bad_heads():
@@ -60,7 +84,8 @@ def bad_heads():
 def bad_stations():
     """A wrong word in place of each of the example's station and coordinate words, and cuts there."""
     for at, word in ((1, words.size(0)), (1, words.size(9)), (4, words.cost(1)), (2, words.easting(FAR + 1)),
-                     (3, words.northing(-FAR - 1)), (5, words.northing(300)), (8, words.easting(0))):
+                     (3, words.northing(-FAR - 1)), (5, words.northing(300)), (8, words.easting(0)),
+                     (4, words.forbidden()), (5, words.forbidden()), (8, words.high_weight(0))):
         yield f"2-word-{at}-{word:08x}", EXAMPLE[:at] + [word] + EXAMPLE[at + 1:]
     for length in (1, 2, 4, 8):
         yield f"2-cut-at-{length}", EXAMPLE[:length]
@@ -69,12 +94,14 @@ def bad_stations():
 def bad_entries():
     """A wrong word where an entry of the example begins, and ends of words within one."""
     pair = words.binding
-    for word in (pair(2, 0), pair(1, 2), pair(15, 0), pair(0, 0) | 8, pair(0, 0) | 1 << 12, words.size(1), words.word(11, 0)):
+    for word in (pair(2, 0), pair(1, 2), pair(15, 0), pair(0, 0) | 8, pair(0, 0) | 1 << 12, words.size(1), words.forbidden(1),
+                 words.forbidden(1 << 27), words.high_weight(0), words.high_weight(1)):
         yield f"3-word-{word:08x}", EXAMPLE + [word, words.cost(1)]
     yield "3-not-rising", EXAMPLE + [pair(1, 0), pair(0, 0), words.cost(1)]
     yield "3-station-twice", EXAMPLE + [pair(1, 0), pair(1, 0), words.cost(1)]
     yield "3-no-cost", EXAMPLE + [pair(0, 0), pair(1, 0)]
     yield "3-before-4", EXAMPLE + [pair(2, 0), words.cost(65_536)]
+    yield "3-before-5", EXAMPLE + [words.forbidden()] * 4_093 + [words.forbidden(1)]
 
 
 def bad_costs():
@@ -85,6 +112,8 @@ def bad_costs():
     yield "4-before-5", EXAMPLE + [words.cost(0)] * 4_093 + [words.cost(65_536)]
     yield "4096-entries", EXAMPLE + [words.cost(1)] * 4_093
     yield "5-4097-entries", EXAMPLE + [words.cost(1)] * 4_094
+    yield "5-4097-forbidden-entries", EXAMPLE + [words.forbidden()] * 4_094
+    yield "5-forbidden-as-the-4097th", EXAMPLE + [words.cost(1)] * 4_093 + [words.forbidden()]
     yield "5-most-legs", sheet([[HERE] * 8] * 12, [([], 1)] * (4_097 - 704))
     yield "4096-with-most-legs", sheet([[HERE] * 8] * 12, [([], 1)] * (4_096 - 704))
 
@@ -118,7 +147,7 @@ def fillers(total, stations):
 
 
 def filled(total, last_entries, last_spots):
-    """Twelve stations, so the capacity is 3,000: so many fillers, and these entries of the stations from 9 on."""
+    """Twelve stations, so the capacity is 2,664: so many fillers, and these entries of the stations from 9 on."""
     return sheet([[HERE] * 8] * 9 + [[HERE] * last_spots] * 3, fillers(total, 9) + last_entries)
 
 
@@ -127,17 +156,28 @@ GROWING = [([(9, 0)], 2), ([(9, 1)], 1), ([(10, 0)], 2), ([(10, 1), (11, 0)], 1)
 
 
 def capacities():
-    """Exactly the rows that the table has room for and one more, in the encoding and in the run. Of its 15,014 words
-    none is left over with twelve stations, and all but one of a row with eight."""
-    yield "3000-rows-encoded", filled(3_000, [], 1)
-    yield "12-3001-rows-encoded", filled(3_001, [], 1)
-    yield "3000-rows-after-a-step", filled(2_995, GROWING, 2)
-    yield "full-3001-rows-after-a-step", filled(2_996, GROWING, 2)
-    yield "3000-rows-of-8-stations", sheet([[HERE] * 8] * 8, fillers(3_000, 8))
-    yield "12-3001-rows-of-8-stations", sheet([[HERE] * 8] * 8, fillers(3_001, 8))
-    entries = [(list(enumerate(spots)), 1) for spots in islice(product(range(8), repeat=4), 3_002)]
-    yield "3001-rows-of-4-stations", sheet([[HERE] * 8] * 4, entries[:3_000] + [([], 5)])
-    yield "12-3002-rows-of-4-stations", sheet([[HERE] * 8] * 4, entries[:3_001] + [([], 5)])
+    """Exactly the rows that the table has room for and one more, in the encoding and in the run. Of its 15,998 words
+    none is left over with six and with twelve stations, and all but one of a row with seven."""
+    yield "2664-rows-encoded", filled(2_664, [], 1)
+    yield "12-2665-rows-encoded", filled(2_665, [], 1)
+    yield "2664-rows-after-a-step", filled(2_659, GROWING, 2)
+    yield "full-2665-rows-after-a-step", filled(2_660, GROWING, 2)
+    for stations, most in ((6, 2_665), (7, 2_664)):
+        yield f"{most}-rows-of-{stations}-stations", growing_sheet(stations, most - 1)
+        yield f"full-{most}-rows-of-{stations}-stations", growing_sheet(stations, most)
+        yield f"12-{most + 1}-rows-of-{stations}-stations", growing_sheet(stations, most + 1)
+    entries = [(list(enumerate(spots)), 1) for spots in islice(product(range(8), repeat=4), 2_665)]
+    yield "2665-rows-of-4-stations", sheet([[HERE] * 8] * 4, entries[:2_664] + [([], 5)])
+    yield "12-2666-rows-of-4-stations", sheet([[HERE] * 8] * 4, entries + [([], 5)])
+
+
+def high_bounds():
+    """Bounds above 32 bits, of so many forbidden constants: full before the first step, and after some hundred."""
+    yield "full-bound-of-17-forbidden", growing_sheet(12, 2_663) + [words.forbidden()] * 17
+    # With 46 legs these are as many entries as there may be. No other station hinders a pair, so the rows are soon many.
+    rng = random.Random(10)
+    entries = [([(0, at % 3), *((station, 0) for station in sorted(rng.sample(range(1, 12), 3)))], at + 1) for at in range(150)]
+    yield "full-bound-of-3900-forbidden", sheet([[HERE] * 3] + [[HERE] * 2] * 11, entries) + [words.forbidden()] * 3_900
 
 
 def full_in_the_run():
@@ -146,7 +186,7 @@ def full_in_the_run():
     costs = [([], 31)] + [([(station, spot)], rng.randint(1, 99)) for station in (9, 10, 11) for spot in range(4)]
     for one, two in ((9, 10), (9, 11), (10, 11)):
         costs += [([(one, spot), (two, other)], rng.randint(1, 99)) for spot in range(4) for other in range(4)]
-    for total in (2_800, 2_900):
+    for total in (2_464, 2_564):
         yield f"full-in-the-run-{total}", filled(total, costs, 4)
 
 
@@ -167,7 +207,8 @@ def odd_lengths():
 
 def all_sheets():
     """Every sheet as a name and its bytes."""
-    for group in (plans, bad_heads, bad_stations, bad_entries, bad_costs, long_inputs, capacities, full_in_the_run, limits):
+    for group in (plans, some_forbidden, all_forbidden, bad_heads, bad_stations, bad_entries, bad_costs, long_inputs, capacities,
+                  high_bounds, full_in_the_run, limits):
         for name, source in group():
             yield name, as_bytes(source)
     yield from odd_lengths()

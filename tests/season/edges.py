@@ -30,12 +30,12 @@ def left_in_pipe(program, source):
 
 def check_nothing_behind_is_read(checks, program):
     first = [NO_WORDS] * 9_999
-    source, line = season([*first, NO_WORDS]), b"0 10000 0 0 0 0 0 0 0 0 0 0 0\n"
+    source, line = season([*first, NO_WORDS]), b"0 10000 0 0 0 0 0 0 0 0 0 0 0 0\n"
     checks.same("what is left in a pipe behind 10,000 sheets", left_in_pipe(program, source + BEHIND), (line, BEHIND))
     checks.same("10,000 sheets before a read that would fail", at_failed_read(program, source), line)
     for name, last, line in (("no words", NO_WORDS, line),
-                             ("a plan", ONE, b"1 9999 0 0 0 0 0 0 0 0 10 10 10000\n"),
-                             ("passed-over words", PASSED_OVER, b"0 9999 0 0 0 0 1 0 0 0 0 0 0\n")):
+                             ("a plan", ONE, b"1 9999 0 0 0 0 0 0 0 0 0 10 10 10000\n"),
+                             ("passed-over words", PASSED_OVER, b"0 9999 0 0 0 0 1 0 0 0 0 0 0 0\n")):
         checks.same(f"what is left in a file behind {name} as the 10,000th sheet",
                     left_in_file(program, season([*first, last]) + BEHIND), (line, BEHIND))
 
@@ -61,9 +61,9 @@ def check_memory(checks, program):
     """Seasons of 164 MB and of 228 MB, which are made while they are read, in less memory."""
     greatest = (season([GREATEST]) for _ in range(10_000))
     checks.same("10,000 sheets of the greatest cost", given_one_by_one(program, greatest, preexec_fn=limited),
-                b"10000 0 0 0 0 0 0 0 0 0 2684313600000 268431360 1\n")
+                b"10000 0 0 0 0 0 0 0 0 0 0 2684313600000 268431360 1\n")
     checks.same("sheets of 164 and 64 MB", given_one_by_one(program, long_pieces(), preexec_fn=limited),
-                b"2 1000 0 0 0 0 1 0 0 0 20 10 1\n")
+                b"2 1000 0 0 0 0 1 0 0 0 0 20 10 1\n")
 
 
 def long_pieces():

@@ -13,7 +13,7 @@ from programs import given_whole
 PLANNER = Path(__file__).resolve().parents[2] / "target" / "bin" / "planner"
 MOST_SHEETS = 10_000
 # The first line of a text up to its steps and bound, in the order of the season's numbers.
-OUTCOMES = ["PLAN", *(f"REFUSED {number}" for number in (1, 2, 3, 4, 5, 10, 12)), "PAUSED", "FULL"]
+OUTCOMES = ["PLAN", *(f"REFUSED {number}" for number in (1, 2, 3, 4, 5, 10, 12, 15)), "PAUSED", "FULL"]
 
 
 @cache
