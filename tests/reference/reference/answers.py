@@ -21,7 +21,7 @@ PAIR_LEFT = 13
 
 # Of document 02's requests.
 BAD_FIXED = 14
-ALL_FORBIDDEN = 15
+FORBIDDEN = 15
 
 
 class Refused(Exception):

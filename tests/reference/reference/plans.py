@@ -2,7 +2,7 @@
 
 from typing import NamedTuple
 
-from .answers import ALL_FORBIDDEN, BAD_FIXED, GOOD, PAIR_LEFT, TARGET_TOO_SHORT, WEIGHT_TOO_HIGH, Refused, require
+from .answers import FORBIDDEN, BAD_FIXED, GOOD, PAIR_LEFT, TARGET_TOO_SHORT, WEIGHT_TOO_HIGH, Refused, require
 from .clauses import bucket_of, falsifies, full
 from .inputs import in_range
 from .limits import FORBIDDEN_WEIGHT, MAX_WEIGHT
@@ -53,7 +53,7 @@ def plan_call(table, target):
         require(len(target) >= len(sizes), TARGET_TOO_SHORT)
         require(next_pair(sizes, rows) is None, PAIR_LEFT)
         # No assignment costs less than the empty row weighs.
-        require(empty_weight(rows) < FORBIDDEN_WEIGHT, ALL_FORBIDDEN)
+        require(empty_weight(rows) < FORBIDDEN_WEIGHT, FORBIDDEN)
     except Refused as refusal:
         return Planned(refusal.number, list(target))
     return Planned(GOOD, rebuilt(sizes, rows) + list(target[len(sizes):]))
