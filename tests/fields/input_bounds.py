@@ -94,6 +94,11 @@ def forbidden_claims(both):
             both.check(instance, [], [0], claimed, [9] * length)
         both.on_table(both.encode(instance, [9] * length).table)
         both.drive(instance, [9] * length, [driver.plan_word(2)], [9], [9] * 2)
+    # Costs whose low bits are those of the empty row, of which there is none.
+    for total in fields.ROUND_COSTS:
+        for value in range(2):
+            for claimed in (0, 1 << 28, 1 << 32):
+                both.check(fields.high_cost(*total), [], [value], claimed, [9] * fields.table_length(1, 1))
 
 
 def leg_bounds(both):

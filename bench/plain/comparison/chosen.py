@@ -117,7 +117,9 @@ def forbidden_claims():
         claims = {0, cost - 1, cost, cost + 1, cost & words.PAYLOAD_MASK, cost & 0xFFFFFFFF, cost + (1 << 56), cost + (1 << 63)}
         made += [calls.check(instance, [], [0], claimed, [0] * 9) for claimed in sorted(claims)]
         made.append(calls.cost(instance, [0]))
-    return made
+    # Costs whose low bits are those of the empty row, of which there is none.
+    return made + [calls.check(fields.high_cost(*total), [], [value], claimed, [0] * 9)
+                   for total in fields.ROUND_COSTS for value in range(2) for claimed in (0, 1 << 28, 1 << 32)]
 
 
 def distance_calls():

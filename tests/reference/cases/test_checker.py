@@ -4,7 +4,7 @@ import unittest
 
 from reference import check_call, words
 from reference.checker import replay
-from reference.fields import forbidden, instance, rows, table, table_length
+from reference.fields import ROUND_COSTS, forbidden, high_cost, instance, rows, table, table_length
 from reference.limits import FORBIDDEN_WEIGHT, MAX_WEIGHT
 from reference.words import step
 
@@ -120,6 +120,13 @@ class Forbidden(unittest.TestCase):
             for claimed in [cost - 1, cost + 1, cost & 0xFFFFFFF, cost % (1 << 32), cost + (1 << 56), cost + (1 << 63)]:
                 if claimed != cost:
                     self.assertEqual(check_call(source, [], [0], claimed, [7] * 9), (7, 0, left))
+
+    def test_costs_that_differ_in_high_bits_alone(self):
+        # The first value costs 2 to the 28th or to the 32nd, the second nothing; there is no empty row.
+        for total, cost in zip(ROUND_COSTS, [1 << 28, 1 << 32]):
+            left = table([2], f"2:{cost}", 9)
+            for assignment, claimed, number in [([0], 0, 7), ([0], cost, 7), ([1], cost, 7), ([1], 0, 0)]:
+                self.assertEqual(check_call(high_cost(*total), [], assignment, claimed, [7] * 9), (number, 0, left))
 
     def test_an_ordinary_plan_beside_forbidden_ones(self):
         # The step moves 65,535 and leaves the forbidden value's row so much lighter.

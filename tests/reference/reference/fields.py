@@ -14,6 +14,8 @@ SHARE = MAX_WEIGHT // 4_096
 # to a little more than that, and far beyond.
 HEAVY_ROWS = [(SHARE + 4_095, SHARE), (SHARE + 4_096, SHARE), (1 << 52, 1 << 52), ((1 << 52) + 9, 1 << 52),
               (MAX_WEIGHT, MAX_WEIGHT)]
+# How many forbidden entries and what ordinary cost together make 1 << 28, and 1 << 32.
+ROUND_COSTS = [(1, 4_095), (16, 65_520)]
 
 
 def instance(sizes, entries):
@@ -24,6 +26,11 @@ def instance(sizes, entries):
 def forbidden(*bindings):
     """The entry that forbids an assignment to have all these bindings."""
     return list(bindings), FORBIDDEN_WEIGHT
+
+
+def high_cost(forbidden_total, cost):
+    """An instance of two values: the first is so often forbidden and has this cost, too; the second is free."""
+    return instance([2], [forbidden((0, 0))] * forbidden_total + [([(0, 0)], cost)])
 
 
 def made_entries(entries):
