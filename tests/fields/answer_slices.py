@@ -1,7 +1,7 @@
 """Answers in slices of every length: the fields are written as far as the slice goes, and what lies behind is kept."""
 
 import driver
-from chosen import ALL_FORBIDDEN, GROWING
+from chosen import GROWING, NONE_LEFT
 from lists import SMALL_FIELDS
 from reference import fields, words
 from reference.limits import MAX_WEIGHT
@@ -12,7 +12,7 @@ LONGEST = 5
 
 
 def good_calls(both):
-    for sizes, entries in SMALL_FIELDS + [GROWING, ALL_FORBIDDEN]:
+    for sizes, entries in SMALL_FIELDS + [GROWING, NONE_LEFT]:
         through_all_calls(both, sizes, entries, 0)
     both.make(SHEET, [9] * 20)
     both.cost(fields.instance(*GROWING), [0, 0, 0])

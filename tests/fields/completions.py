@@ -7,13 +7,12 @@ from itertools import product
 
 import reference
 from both import SIZE_MAX, named_variables
-from chosen import ALL_FORBIDDEN, GROWING, ONE_LEFT, chain, long_chain, random_field, scattered
+from chosen import GROWING, NONE_LEFT, ONE_LEFT, chain, long_chain, random_field, scattered
 from different import Different, require
 from lists import SMALL_FIELDS
 from records import ROWS, STEPS
 from reference import fields
-from reference.answers import ALL_FORBIDDEN as NO_PLAN
-from reference.answers import BAD_FIXED, BAD_TABLE, GOOD, PAIR_LEFT, TARGET_TOO_SHORT, WEIGHT_TOO_HIGH
+from reference.answers import ALL_FORBIDDEN, BAD_FIXED, BAD_TABLE, GOOD, PAIR_LEFT, TARGET_TOO_SHORT, WEIGHT_TOO_HIGH
 from reference.limits import FORBIDDEN_WEIGHT, MAX_ROWS, MAX_WEIGHT
 from reference.steps import DONE
 from reference.tables import Row, read_table, table_words
@@ -80,13 +79,13 @@ def forbidden_fields(both):
     """Every choice of last values beside forbidden entries; there is a plan unless all assignments are forbidden."""
     chance = random.Random(10)
     numbers = Counter()
-    for field in [ALL_FORBIDDEN, ONE_LEFT] + [scattered(chance, [2, 3, 2], 14) for _ in range(FORBIDDEN_FIELDS)]:
+    for field in [NONE_LEFT, ONE_LEFT] + [scattered(chance, [2, 3, 2], 14) for _ in range(FORBIDDEN_FIELDS)]:
         table = finished(field)
         completed(both, *field, table)
         number = both.plan(table, [9] * len(field[0])).number
-        require((number == NO_PLAN) == all_forbidden(*field), f"{number} for the plan of {field}")
+        require((number == ALL_FORBIDDEN) == all_forbidden(*field), f"{number} for the plan of {field}")
         numbers[number] += 1
-    require(min(numbers[GOOD], numbers[NO_PLAN]) > 10, f"hardly reached: {numbers}")
+    require(min(numbers[GOOD], numbers[ALL_FORBIDDEN]) > 10, f"hardly reached: {numbers}")
 
 
 def faulty_table(numbers):

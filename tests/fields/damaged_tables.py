@@ -3,7 +3,7 @@
 import random
 
 import reference
-from chosen import ALL_FORBIDDEN, GROWING, chain, long_chain, scattered
+from chosen import GROWING, NONE_LEFT, chain, long_chain, scattered
 from lists import SMALL_FIELDS
 from records import ROWS, stepped
 from reference import fields, words
@@ -161,7 +161,7 @@ def compare(both):
             for spoiled in all_bits(table):
                 both.on_table(spoiled)
     larger = [chain(chance, [3, 2, 3]), long_chain(), scattered(chance, [3] * 4, 12), scattered(chance, [8, 5, 2], 14)]
-    for index, field in enumerate(SMALL_FIELDS[:4] + [GROWING, ALL_FORBIDDEN] + larger):
+    for index, field in enumerate(SMALL_FIELDS[:4] + [GROWING, NONE_LEFT] + larger):
         for table in on_the_way(field, index % ROW_WORDS):
             for spoiled in changed(chance, table):
                 both.on_table(spoiled)

@@ -4,7 +4,7 @@ import random
 
 import driver
 import reference
-from chosen import ALL_FORBIDDEN, GROWING, chain, long_chain
+from chosen import GROWING, NONE_LEFT, chain, long_chain
 from lists import SMALL_FIELDS
 from records import recorded
 from reference import fields, words
@@ -29,7 +29,7 @@ def in_table_of(both, record, length):
 
 def length_bounds(both):
     """Every length up to eight words more than the run needs; of the longest field those around its bounds alone."""
-    for field in SMALL_FIELDS + [GROWING, ALL_FORBIDDEN, chain(random.Random(3), [3, 2, 2])]:
+    for field in SMALL_FIELDS + [GROWING, NONE_LEFT, chain(random.Random(3), [3, 2, 2])]:
         record = recorded(field)
         for length in range(record.length + 8):
             in_table_of(both, record, length)
@@ -51,7 +51,8 @@ def words_past_the_rows(both):
 
 
 def width_of_the_rows(both):
-    """Rows of four to eight words, those of six with and without words past them; a weight of 0 in one or both of its words."""
+    """A row of four to seven words, with and without zeros past it; a weight of 0 in one or both of its words, and words of
+    other kinds in place of them."""
     signs = [words.signs(0, [2, 0, 0])] + [words.signs(index, [0, 0, 0]) for index in range(1, 4)]
     start = [words.head(1), words.size(2), words.row_count(1)]
     for low in (0, 1):
