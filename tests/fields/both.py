@@ -11,7 +11,7 @@ import reference
 from different import Different
 from proved import BYTE, FIELD, SIZE, WORD, Slice, call
 from reference import inputs, words
-from reference.answers import ALL_FORBIDDEN, BAD_TABLE, GOOD
+from reference.answers import FORBIDDEN, BAD_TABLE, GOOD
 from reference.steps import DONE, PAUSED, REFUSED
 
 OUTCOMES = {DONE: 0, PAUSED: 1, REFUSED: 2}
@@ -155,7 +155,7 @@ class Both:
         self.step(table)
         self.run(table, RUN_LIMIT, [9] * (RUN_LIMIT + 1))
         self.run(table, RUN_LIMIT, [9] * 2)
-        if self.plan(table, [200] * 13).number == ALL_FORBIDDEN:
+        if self.plan(table, [200] * 13).number == FORBIDDEN:
             self.complete(table, named_variables(table), [], [200] * 13)
         self.plan(table, [])
         self.complete(table, 1, [0] * (named_variables(table) - 1), [200] * 13)

@@ -12,7 +12,7 @@ from different import Different, require
 from lists import SMALL_FIELDS
 from records import ROWS, STEPS
 from reference import fields
-from reference.answers import ALL_FORBIDDEN, BAD_FIXED, BAD_TABLE, GOOD, PAIR_LEFT, TARGET_TOO_SHORT, WEIGHT_TOO_HIGH
+from reference.answers import FORBIDDEN, BAD_FIXED, BAD_TABLE, GOOD, PAIR_LEFT, TARGET_TOO_SHORT, WEIGHT_TOO_HIGH
 from reference.limits import FORBIDDEN_WEIGHT, MAX_ROWS, MAX_WEIGHT
 from reference.steps import DONE
 from reference.tables import Row, read_table, table_words
@@ -83,9 +83,9 @@ def forbidden_fields(both):
         table = finished(field)
         completed(both, *field, table)
         number = both.plan(table, [9] * len(field[0])).number
-        require((number == ALL_FORBIDDEN) == all_forbidden(*field), f"{number} for the plan of {field}")
+        require((number == FORBIDDEN) == all_forbidden(*field), f"{number} for the plan of {field}")
         numbers[number] += 1
-    require(min(numbers[GOOD], numbers[ALL_FORBIDDEN]) > 10, f"hardly reached: {numbers}")
+    require(min(numbers[GOOD], numbers[FORBIDDEN]) > 10, f"hardly reached: {numbers}")
 
 
 def faulty_table(numbers):
