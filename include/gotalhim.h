@@ -149,8 +149,8 @@ uint32_t gotalhim_run(uint32_t *table, size_t table_length,
 
 /*
  * Rebuilds the plan from a table in which no pair is left. If the table comes from the encoding of an accepted instance
- * by any list of step calls, runs and plan calls, a plan that is written has the least cost and no forbidden combination,
- * and the number is 15 exactly if every plan has one.
+ * by any list of step calls, runs and plan calls, a plan that is written has the least cost and no forbidden combination;
+ * with no pair left and room in the target, the number is 15 exactly if every plan has one.
  * Tests, in this order: 9; 10 if the target is shorter than n bytes; 13; 15 if the row without literals weighs
  * GOTALHIM_FORBIDDEN_WEIGHT or more, wherever the table comes from.
  * Memory: the plan in front of the target, the rest kept.
@@ -163,10 +163,10 @@ uint32_t gotalhim_plan(const uint32_t *table, size_t table_length,
  * without new steps: rebuilds the values of the others from a table in which no pair is left. If the table comes from the
  * encoding of an accepted instance by any list of step calls, runs and plan calls, or is the work table that
  * gotalhim_check left of one, the plan that is written costs the answer, no plan with these fixed values costs less, and
- * 11 does not occur. With k = n no value is fixed: the plan is that of gotalhim_plan, and the answer is
- * the weight of the row without literals, 0 if there is none. The number is never 15: where every plan with these fixed
- * values has a forbidden combination, one of least cost is written all the same, and the answer is
- * GOTALHIM_FORBIDDEN_WEIGHT or more; with k = n this is the plan that gotalhim_plan does not write.
+ * 11 does not occur; the answer is GOTALHIM_FORBIDDEN_WEIGHT or more exactly if every plan with these fixed values has a
+ * forbidden combination. With k = n no value is fixed: the plan is that of gotalhim_plan, and the answer is the weight of
+ * the row without literals, 0 if there is none. The number is never 15: with k = n the plan that gotalhim_plan then does
+ * not write is written, with its cost.
  * Tests, in this order: 9; 10 if the target is shorter than n bytes; 14; 13; 11.
  * Answer: the weight of the rows without variables below k that the fixed values falsify.
  * Memory: all n bytes of the plan in front of the target, the fixed ones as given, the rest kept. As everywhere, the fixed

@@ -13,7 +13,7 @@ pub fn plan(table: &[u32], target: &mut [u8]) -> Result<(), Refusal> {
     let (domains, rows) = read_for(table, target)?;
     require(next_pair(&domains, rows, &Start::fresh()).is_none(), Refusal::PairLeft)?;
     // No assignment costs less than the empty row weighs.
-    require(empty_weight(rows) < FORBIDDEN_WEIGHT, Refusal::AllForbidden)?;
+    require(empty_weight(rows) < FORBIDDEN_WEIGHT, Refusal::Forbidden)?;
     rebuild(&domains, rows, &mut target[..domains.count()], domains.count());
     Ok(())
 }

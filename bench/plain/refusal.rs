@@ -20,7 +20,7 @@ pub enum Refusal {
     PairLeft = 13,
     // Of document 02's requests.
     BadFixed = 14,
-    AllForbidden = 15,
+    Forbidden = 15,
 }
 
 impl Refusal {

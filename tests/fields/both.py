@@ -11,7 +11,7 @@ import reference
 from different import Different
 from proved import BYTE, FIELD, SIZE, WORD, Slice, call
 from reference import inputs, words
-from reference.answers import FORBIDDEN, BAD_TABLE, GOOD
+from reference.answers import BAD_TABLE, FORBIDDEN, GOOD
 from reference.steps import DONE, PAUSED, REFUSED
 
 OUTCOMES = {DONE: 0, PAUSED: 1, REFUSED: 2}

@@ -5,7 +5,7 @@ import random
 import driver
 import reference
 from both import row_total
-from chosen import GROWING, NONE_LEFT, ONE_LEFT, long_chain, random_field
+from chosen import GROWING, NONE_LEFT, TWO_LEFT, long_chain, random_field
 from lists import SMALL_FIELDS
 from records import recorded
 from reference import fields, words
@@ -79,7 +79,7 @@ def to_the_end(both, field):
 
 def compare(both):
     chance = random.Random(8)
-    for field in SMALL_FIELDS + [GROWING, NONE_LEFT, ONE_LEFT, long_chain()]:
+    for field in SMALL_FIELDS + [GROWING, NONE_LEFT, TWO_LEFT, long_chain()]:
         to_the_end(both, field)
     for _ in range(LISTS):
         random_list(both, chance, random_field(chance))

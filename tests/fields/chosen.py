@@ -8,9 +8,9 @@ from reference.limits import FORBIDDEN_WEIGHT
 # Four rows, four after the first step, five after the second.
 GROWING = ([2, 2, 2], [([(0, 0)], 2), ([(0, 1)], 1), ([(1, 0)], 2), ([(1, 1), (2, 0)], 1)])
 
-# Fields with forbidden entries: no assignment is left, and those with value 1 of the second variable, which is dear.
+# Fields with forbidden entries: no assignment is left; and two are, those with value 1 of the second variable, which is dear.
 NONE_LEFT = ([2, 2], [fields.forbidden((1, 0)), fields.forbidden((0, 0), (1, 1)), fields.forbidden((0, 1)), ([(0, 1)], 5)])
-ONE_LEFT = ([2, 3], [([(1, 1)], 65_535), fields.forbidden((1, 0)), ([(0, 0)], 3), fields.forbidden((0, 1), (1, 2)),
+TWO_LEFT = ([2, 3], [([(1, 1)], 65_535), fields.forbidden((1, 0)), ([(0, 0)], 3), fields.forbidden((0, 1), (1, 2)),
                      fields.forbidden((0, 0), (1, 2)), ([], 1)])
 
 

@@ -7,12 +7,12 @@ from itertools import product
 
 import reference
 from both import SIZE_MAX, named_variables
-from chosen import GROWING, NONE_LEFT, ONE_LEFT, chain, long_chain, random_field, scattered
+from chosen import GROWING, NONE_LEFT, TWO_LEFT, chain, long_chain, random_field, scattered
 from different import Different, require
 from lists import SMALL_FIELDS
 from records import ROWS, STEPS
 from reference import fields
-from reference.answers import FORBIDDEN, BAD_FIXED, BAD_TABLE, GOOD, PAIR_LEFT, TARGET_TOO_SHORT, WEIGHT_TOO_HIGH
+from reference.answers import BAD_FIXED, BAD_TABLE, FORBIDDEN, GOOD, PAIR_LEFT, TARGET_TOO_SHORT, WEIGHT_TOO_HIGH
 from reference.limits import FORBIDDEN_WEIGHT, MAX_ROWS, MAX_WEIGHT
 from reference.steps import DONE
 from reference.tables import Row, read_table, table_words
@@ -29,13 +29,6 @@ OTHER_SIZES = [3, 1, 8, 2]
 def paid(entries, assignment):
     """What an assignment costs by the entries of its field."""
     return sum(cost for bindings, cost in entries if all(assignment[variable] == value for variable, value in bindings))
-
-
-def all_forbidden(sizes, entries):
-    """Whether every assignment has all bindings of some forbidden entry."""
-    banned = [bindings for bindings, cost in entries if cost == FORBIDDEN_WEIGHT]
-    return bool(banned) and all(any(all(assignment[variable] == value for variable, value in bindings) for bindings in banned)
-                                for assignment in product(*map(range, sizes)))
 
 
 def least_costs(sizes, entries):
@@ -79,11 +72,11 @@ def forbidden_fields(both):
     """Every choice of last values beside forbidden entries; there is a plan unless all assignments are forbidden."""
     chance = random.Random(10)
     numbers = Counter()
-    for field in [NONE_LEFT, ONE_LEFT] + [scattered(chance, [2, 3, 2], 14) for _ in range(FORBIDDEN_FIELDS)]:
+    for field in [NONE_LEFT, TWO_LEFT] + [scattered(chance, [2, 3, 2], 14) for _ in range(FORBIDDEN_FIELDS)]:
         table = finished(field)
         completed(both, *field, table)
         number = both.plan(table, [9] * len(field[0])).number
-        require((number == FORBIDDEN) == all_forbidden(*field), f"{number} for the plan of {field}")
+        require((number == FORBIDDEN) == fields.all_forbidden(*field), f"{number} for the plan of {field}")
         numbers[number] += 1
     require(min(numbers[GOOD], numbers[FORBIDDEN]) > 10, f"hardly reached: {numbers}")
 

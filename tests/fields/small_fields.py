@@ -18,7 +18,7 @@ from math import prod
 from typing import NamedTuple
 
 from both import row_total
-from completions import all_forbidden, completed
+from completions import completed
 from different import require
 from reference import fields
 from reference.answers import FORBIDDEN, GOOD
@@ -90,7 +90,7 @@ def through_all_calls(both, sizes, entries, spare):
     # In a slice that ends behind the rows, which takes less time.
     ended = table[:fields.table_length(len(sizes), row_total(table), spare)]
     unfixed = completed(both, sizes, entries, ended)[()]
-    plan = (FORBIDDEN, [8] * len(sizes)) if all_forbidden(sizes, entries) else (GOOD, unfixed.target)
+    plan = (FORBIDDEN, [8] * len(sizes)) if fields.all_forbidden(sizes, entries) else (GOOD, unfixed.target)
     require((unfixed.cost, planned) == (ran.bound, plan), f"{unfixed} with no value fixed, the plan {planned}, due {plan}")
     both.check(instance, derivation, unfixed.target, ran.bound, [6] * length)
 

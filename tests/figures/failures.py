@@ -15,6 +15,7 @@ PROGRAMS = {
     "failing": ("echo 1 2 3; exit 3", "season: the program ended with status 3\n"),
     "killed": ("kill -9 $$", "season: the program ended with status 137\n"),
     "complaining": ("echo 'season: the season cannot be read' >&2", UNREADABLE),
+    "short": ("echo 1 2 3", "season: the program's answer is unknown: 1 2 3\n"),
     "astray": ("echo PLAN", "season: the program's answer is unknown: PLAN\n"),
 }
 

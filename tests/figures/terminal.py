@@ -16,7 +16,7 @@ from pathlib import Path
 from figured import PATIENCE, season_with
 
 SIZE, READ = 2_000, 700
-LINE = "1 2 3"
+LINE = "3 0 0 0 0 0 0 0 0 0 0 606 312 3"
 SHOWN = f"season: 35 % of the file read, {READ} of {SIZE} bytes"
 # Until somebody writes to the pipe.
 WAITING = f"""#!/bin/sh

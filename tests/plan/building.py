@@ -59,7 +59,7 @@ class Command(NamedTuple):
 
 
 PLAN = Command("plan", EXAMPLES / "corner.sheet", "PLAN")
-SEASON = Command("season", EXAMPLES / "three.season", "3 2 1")
+SEASON = Command("season", EXAMPLES / "three.season", "14 13 12 11 10 9 8 7 6 5 4 3 2 1")
 
 
 def repository(folder, program, toolchain=TOOLCHAIN):

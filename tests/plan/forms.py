@@ -9,7 +9,7 @@ from reference import fields, words
 
 NAMES = ["corner", "headland", "terraces"]
 # Every plan of this one has a forbidden combination.
-FORBIDDEN = "culvert"
+CULVERT = "culvert"
 REASON = f"{ALL_FORBIDDEN} (refusal 15)"
 # Malformed words, none of them text: short of a word, or with a first word that is no head.
 NO_TEXT = [b"", b"\n", b"ab", b"abc", b"\x0a\x00\x00", bytes(4), b"station\0", b"\xff\xff\xff\x8f" + bytes(8)]
@@ -41,9 +41,9 @@ def check_forms(checks, folder):
 
 def check_forbidden(checks):
     """Answered as the other refusals are, though the words have no fault."""
-    text = (EXAMPLES / f"{FORBIDDEN}.plan").read_bytes()
+    text = (EXAMPLES / f"{CULVERT}.plan").read_bytes()
     for ending in ("sheet", "txt"):
-        name = f"examples/{FORBIDDEN}.{ending}"
+        name = f"examples/{CULVERT}.{ending}"
         checks.same(f"plan of {name}", planned([name]), (2, text, f"plan: {name}: {REASON}\n"))
 
 
@@ -88,7 +88,7 @@ def check_without_python(checks, folder):
     checks.same("words without Python", planned(["examples/corner.sheet"], path=path), (0, plan, ""))
     checks.same("a refusal without Python", planned(["-"], path=path),
                 (2, b"REFUSED 1\n", "plan: standard input: refused with number 1, which plan --help explains\n"))
-    name = f"examples/{FORBIDDEN}.sheet"
+    name = f"examples/{CULVERT}.sheet"
     checks.same("a refusal found by planning without Python", planned([name], path=path),
                 (2, b"REFUSED 15\n", f"plan: {name}: {REASON}\n"))
     checks.same("text without Python", planned(["examples/corner.txt"], path=path),

@@ -70,7 +70,7 @@ def all_forbidden():
     yield "15-all-combinations", sheet([[HERE] * 3, [(100, 0)] * 3], pairs)
     yield "15-beside-65535", sheet([[HERE]], [([], 65_535)] * 4_095 + [forbidden()])
     yield "15-after-steps", sheet(*combined(6, 5, 3, 20_000, 12, (1, 50))) + [words.forbidden()]
-    yield "15-4096-forbidden-entries", EXAMPLE + [words.forbidden()] * 4_093
+    yield "15-4096-forbidden-entries", sheet([[HERE]], [forbidden()] * 4_096)
 
 
 def bad_heads():
@@ -112,7 +112,7 @@ def bad_costs():
     yield "4-before-5", EXAMPLE + [words.cost(0)] * 4_093 + [words.cost(65_536)]
     yield "4096-entries", EXAMPLE + [words.cost(1)] * 4_093
     yield "5-4097-entries", EXAMPLE + [words.cost(1)] * 4_094
-    yield "5-4097-forbidden-entries", EXAMPLE + [words.forbidden()] * 4_094
+    yield "5-4097-forbidden-entries", sheet([[HERE]], [forbidden()] * 4_097)
     yield "5-forbidden-as-the-4097th", EXAMPLE + [words.cost(1)] * 4_093 + [words.forbidden()]
     yield "5-most-legs", sheet([[HERE] * 8] * 12, [([], 1)] * (4_097 - 704))
     yield "4096-with-most-legs", sheet([[HERE] * 8] * 12, [([], 1)] * (4_096 - 704))

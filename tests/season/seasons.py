@@ -15,7 +15,7 @@ PASSED_OVER = bytes(64_004)
 TINY = [NO_WORDS, as_bytes([words.head(13)]), as_bytes([words.head(1)]), costing(7)[:-4] + as_bytes([words.size(1)]),
         costing(7)[:-4], costing(7)]
 # As short, with its one plan forbidden.
-FORBIDDEN = costing(FORBIDDEN_WEIGHT)
+FORBIDDEN_SHEET = costing(FORBIDDEN_WEIGHT)
 
 
 def cuts():
@@ -41,8 +41,8 @@ def costs():
     """Which cost is the largest, and which sheet has it first."""
     for listed in ([3, 7, 7, 5], [7, 3, 7], [1, 2, 3], [0], [0, 0, 0], [0, 1, 1], [65_535, 65_535]):
         yield f"costs {listed}", season(map(costing, listed))
-    yield "forbidden between costs", season([FORBIDDEN, costing(3), FORBIDDEN, costing(65_535), FORBIDDEN])
-    yield "forbidden alone", season([FORBIDDEN] * 3)
+    yield "forbidden between costs", season([FORBIDDEN_SHEET, costing(3), FORBIDDEN_SHEET, costing(65_535), FORBIDDEN_SHEET])
+    yield "forbidden alone", season([FORBIDDEN_SHEET] * 3)
     yield "nothing planned", season(TINY[:4])
     yield "refused before costs 0", season([*TINY[:4], PASSED_OVER, costing(0), costing(0)])
     yield "refused before a plan", season([*TINY[:4], PASSED_OVER, costing(4)])
@@ -50,12 +50,12 @@ def costs():
 
 def many_sheets():
     """As many sheets as are counted, and more."""
-    tiny = list(islice(cycle([costing(cost) for cost in range(1, 30)] + TINY + [FORBIDDEN]), 10_000))
+    tiny = list(islice(cycle([costing(cost) for cost in range(1, 30)] + TINY + [FORBIDDEN_SHEET]), 10_000))
     yield "10,000 sheets", season(tiny)
     yield "10,001 sheets", season(tiny + [costing(60_000)])
     last = season(tiny[:-1])
     for name, end in (("a plan", season([costing(1_000)])), ("no words", length(0)), ("a cut length", b"\0\0\0"),
-                      ("a forbidden plan", season([FORBIDDEN])), ("a cut sheet", season([ONE])[:-1]),
+                      ("a forbidden plan", season([FORBIDDEN_SHEET])), ("a cut sheet", season([ONE])[:-1]),
                       ("passed-over words", season([PASSED_OVER]))):
         yield f"{name} as the 10,000th sheet", last + end
     for cut in (1, 2, 3, 4):
@@ -99,7 +99,7 @@ def damaged(rng, source):
 
 def randomly_damaged():
     rng = random.Random(31)
-    pool = TINY + [FORBIDDEN, ONE, *(source for _, source in all_sheets() if 40 < len(source) < 500)]
+    pool = TINY + [FORBIDDEN_SHEET, ONE, *(source for _, source in all_sheets() if 40 < len(source) < 500)]
     for number in range(250):
         sheets = [rng.choice(pool) for _ in range(rng.randint(1, 7))]
         if rng.random() < 0.15:

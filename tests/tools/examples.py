@@ -7,8 +7,8 @@ EXAMPLES = ROOT / "examples"
 README = ROOT / "README.md"
 # Those that are planned, and the one whose every plan has a forbidden combination.
 NAMES = ["corner", "headland", "terraces"]
-FORBIDDEN = "culvert"
-ALL = sorted([*NAMES, FORBIDDEN])
+CULVERT = "culvert"
+ALL = sorted([*NAMES, CULVERT])
 
 # The printed plan of the small field that document 01 works out.
 CORNER_PLAN = b"PLAN\nCOST 10\nSTEPS 1\n0 0 0\n1 1 10\n"
@@ -32,7 +32,7 @@ def check_example(checks, name):
     sheet, plan = content(f"{name}.sheet"), content(f"{name}.plan")
     checks.answers(["words", f"examples/{name}.txt"], b"", sheet)
     checks.same(f"the plan of examples/{name}.sheet", printed_plan(sheet), plan)
-    checks.same(f"the first line of examples/{name}.plan", plan.split(b"\n")[0], b"REFUSED 15" if name == FORBIDDEN else b"PLAN")
+    checks.same(f"the first line of examples/{name}.plan", plan.split(b"\n")[0], b"REFUSED 15" if name == CULVERT else b"PLAN")
 
 
 def check_season(checks):

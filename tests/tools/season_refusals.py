@@ -7,7 +7,7 @@ import tempfile
 
 import round_trips
 from checks import called, ran
-from examples import FORBIDDEN, content
+from examples import CULVERT, content
 from packing import REFUSED
 from reference import fields
 from reference.answers import GOOD
@@ -31,7 +31,7 @@ def reasons(source):
 def check_each(checks):
     good, no_room = content("corner.sheet"), fields.as_bytes(crowded(ROOM + 1))
     # Of the forbidden one nothing is said, since it is refused only once it is planned.
-    sheets = [good, *REFUSED.values(), content(f"{FORBIDDEN}.sheet"), no_room]
+    sheets = [good, *REFUSED.values(), content(f"{CULVERT}.sheet"), no_room]
     lines = [f"sheet {number}: {reason}" for number, reason in enumerate(NO_TEXT.values(), 2)]
     checks.same("refused sheets", reasons(season(sheets)), lines + [f"sheet 7: {refusal_of_words(no_room).decode().strip()}"])
     checks.answers(["season", "why", "examples/three.season"], b"", b"")

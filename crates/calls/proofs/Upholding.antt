@@ -8,8 +8,7 @@ use mathlib.Core.List.{List, [], _∷_}
 use mathlib.Core.Option.{Option, none, some}
 use lib.ListN.{length}
 use lib.Dec.{leb, ltb}
-use borrow.Author.Tests.{le-leb, lt-leb, leb-true, lt-ltb, le-ltb}
-use Rattle.wcsp.specs.Clause.{InRange}
+use borrow.Author.Tests.{lt-leb, leb-true, lt-ltb, le-ltb}
 use Rattle.wcsp.specs.Row.{Row, emptyWeight}
 use Rattle.wcsp.specs.Entry.{Entry, cost}
 use Rattle.wcsp.specs.Resolve.{Pair, nextPair, resolve}
@@ -19,9 +18,9 @@ use Rattle.wcsp.proofs.Bound.{stepsBounded, bound-fixed}
 use Rattle.wcsp.proofs.Completeness.{optimality}
 use Rattle.wcsp.proofs.Least.{best-from}
 use Rattle.fields.specs.Limits.{forbiddenCost}
-use Rattle.fields.specs.Forbidden.{hasForbidden}
+use Rattle.fields.specs.Forbidden.{hasForbidden, AllForbidden}
 use Rattle.fields.proofs.Costs.{entries-costs}
-use Rattle.fields.proofs.Forbidden.{forbiddenIsDear}
+use Rattle.fields.proofs.Forbidden.{forbiddenIsDear, boundForbids}
 use Rattle.rows.specs.Raw.{maxWeight}
 use Rattle.table.specs.Layout.{capacity, tableWords}
 use Rattle.table.specs.Meaning.{ownRows}
@@ -36,7 +35,7 @@ use Rattle.checker.proofs.Replaying.{Left, left-held}
 use Rattle.checker.proofs.Claims.{coded-takes, encoded-left, replayed-ended, check-held}
 use Rattle.calls.specs.Calls.{Call, afterCalls, started}
 use Rattle.calls.specs.LastFixed.{CompletesBest, CheckedCompletes}
-use Rattle.calls.specs.AllForbidden.{AllForbidden, ForbidsExactly, CheckedForbids}
+use Rattle.calls.specs.Forbids.{ForbidsExactly, CheckedForbids}
 use Rattle.calls.specs.Demand.{StepGives, RunEnds, noneLeft, limitMet, noRoom, Upheld, UpheldFrom, Demand3}
 use Rattle.calls.proofs.Reaching.{reaches-derives, reaches-steps, reaches-left}
 use Rattle.calls.proofs.Held.{held-rows, held-run, plan-short, plan-early, plan-heavy, plan-written, complete-written}
@@ -105,7 +104,7 @@ module _ {len : ℕ} {ds : List ℕ} {es : List Entry} (a : Takes len ds es) whe
     heavy-all e =
         let m : ℕ = emptyWeight (length ds) rs in
         let b = best-rows e in (
-          λ (w : forbiddenCost ≤ m) p r. sym (dear p) ∙ le-leb forbiddenCost (cost es p) (omega (arith, b .least p r)),
+          λ (w : forbiddenCost ≤ m). boundForbids ds 0 es (a .entries) m w (b .least),
           λ (all : AllForbidden ds es).
               omega (arith, b .attained, leb-true forbiddenCost (cost es (rebuilt ds rs)) (dear (rebuilt ds rs) ∙ all (rebuilt ds rs) (b .inRange))),
         )

@@ -60,4 +60,5 @@ witnesses =
       forbiddenPlan = refl;
       forbiddenCompleted = refl;
       forbiddenChecked = refl;
+      checkedEnds = refl;
     }

@@ -26,7 +26,7 @@ use Rattle.assignment.specs.Calls.{planCall}
 use Rattle.checker.specs.Theorems.{Best}
 use Rattle.calls.specs.Calls.{Call, started, afterCalls, Derives}
 use Rattle.calls.specs.LastFixed.{CompletesBest}
-use Rattle.calls.specs.AllForbidden.{ForbidsExactly}
+use Rattle.calls.specs.Forbids.{ForbidsExactly}
 
 -- how many rows a slice takes over these sizes
 abbrev pub room : List ℕ → List ℕ → ℕ

@@ -1,7 +1,7 @@
 -- Demand 3: lists of calls on one table, and what holds after every one of them.
 pub mod Calls
 pub mod LastFixed
-pub mod AllForbidden
+pub mod Forbids
 pub mod Demand
 pub mod Derivation
 pub mod Driver

@@ -88,3 +88,4 @@ pub record Witnesses : Type 0 where
   pub forbiddenPlan : planCall (finishedTable bothOverDrain) (9 ∷ 8 ∷ []) ≡ record { number = 15; target = 9 ∷ 8 ∷ [] }
   pub forbiddenCompleted : completeCall (finishedTable bothOverDrain) 1 [] (9 ∷ 8 ∷ []) ≡ record { answer = good forbiddenCost; target = 0 ∷ 8 ∷ [] }
   pub forbiddenChecked : checkCall bothOverDrain (stepWord 0 0 1 ∷ []) (0 ∷ []) forbiddenCost lent .answer ≡ record { number = 0; steps = 1 }
+  pub checkedEnds : nextPair (sizesOf bothOverDrain) (ownRows (checkCall bothOverDrain (stepWord 0 0 1 ∷ []) (0 ∷ []) forbiddenCost lent .table)) ≡ none

@@ -8,7 +8,7 @@ use mathlib.Core.Bool.{Bool, true, false, _&&_, cond}
 use mathlib.Core.List.{List, [], _∷_, map}
 use lib.ListN.{length, getD, drop, replicate, length-drop, List·getD-append, List·getD-eq-default}
 use lib.Seq.{getD-drop}
-use lib.Dec.{eqb, leb, ltb}
+use lib.Dec.{leb, ltb}
 use borrow.Author.Tests.{eq-eqb, leb-true, leb-false, ltb-true}
 use Rattle.wcsp.specs.Sign.{full}
 use Rattle.wcsp.specs.Entry.{Entry, encoded}

@@ -1,17 +1,18 @@
 -- An assignment with no forbidden combination costs at most 4,096 ordinary costs, which a forbidden entry is above; any other costs at least that entry.
 use Prim.Native.Nat.{ℕ, suc, _+_, _*_, _≤_}
 use native.Mathlib.Omega.{arith}
-use mathlib.Core.Path.{_≡_, refl, _∙_}
+use mathlib.Core.Path.{_≡_, refl, sym, _∙_}
 use mathlib.Core.Logic.{_⊎_, ⊎-elim}
 use mathlib.Core.Bool.{Bool, true, false, _&&_, _||_, cond}
 use mathlib.Core.List.{List, [], _∷_}
 use lib.ListN.{length}
 use lib.Dec.{eqb, leb}
-use borrow.Author.Tests.{eqb-true, eqb-false, le-leb, lt-leb, leb-false}
+use borrow.Author.Tests.{eqb-true, eqb-false, ne-eqb, le-leb, lt-leb, leb-false}
 use Rattle.wcsp.specs.Entry.{Entry, matches, cost}
+use Rattle.words.specs.Layout.{kindOf, payloadOf}
 use Rattle.fields.specs.Limits.{maxCost, greatestAllowed, forbiddenCost}
-use Rattle.fields.specs.Entries.{Each, nilEach, consEach, Entries}
-use Rattle.fields.specs.Forbidden.{hasForbidden, ForbiddenIsDear}
+use Rattle.fields.specs.Entries.{Each, nilEach, consEach, Entries, costOf}
+use Rattle.fields.specs.Forbidden.{hasForbidden, ForbiddenIsDear, BoundForbids, ForbiddenByKind}
 
 abbrev Priced : List Entry → Type 0
 Priced es = Each (λ e. (e .cost ≤ maxCost) ⊎ (e .cost ≡ forbiddenCost)) es
@@ -48,3 +49,16 @@ forbiddenIsDear ds before es a p = go (hasForbidden es p) (told es p (a .costs))
 pub allowed-costs : {ds : List ℕ} {before : ℕ} {es : List Entry} → Entries ds before es → (p : List ℕ) → hasForbidden es p ≡ false
     → cost es p ≤ greatestAllowed
 allowed-costs {ds} {before} {es} a p f = omega (arith, leb-false forbiddenCost (cost es p) (forbiddenIsDear ds before es a p ∙ f))
+
+pub boundForbids : BoundForbids
+boundForbids ds before es a b h below p r = sym (forbiddenIsDear ds before es a p) ∙ le-leb forbiddenCost (cost es p) (omega (arith, below p r))
+
+pub forbiddenByKind : ForbiddenByKind
+unfolding costOf
+forbiddenByKind w limit = go (eqb (kindOf w) 4) (eqb (kindOf w) 11) refl refl
+  where
+    go : (x y : Bool) → eqb (kindOf w) 4 ≡ x → eqb (kindOf w) 11 ≡ y → eqb (cond x (payloadOf w) (cond y forbiddenCost 0)) forbiddenCost ≡ y
+    go true true e f = absurd (omega (arith, eqb-true (kindOf w) 4 e, eqb-true (kindOf w) 11 f))
+    go true false e f = ne-eqb (payloadOf w) forbiddenCost (λ (z : payloadOf w ≡ forbiddenCost). omega (arith, limit (eqb-true (kindOf w) 4 e)))
+    go false true e f = refl
+    go false false e f = refl

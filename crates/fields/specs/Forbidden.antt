@@ -1,12 +1,14 @@
--- Forbidden combinations (document 02: spots nobody may core): which assignments have one, and that their cost tells.
-use Prim.Native.Nat.{ℕ}
+-- Forbidden combinations (document 02: spots nobody may core): which assignments have one, and that costs tell.
+use Prim.Native.Nat.{ℕ, _≤_}
 use mathlib.Core.Path.{_≡_}
-use mathlib.Core.Bool.{Bool, false, _&&_, _||_}
+use mathlib.Core.Bool.{Bool, true, false, _&&_, _||_}
 use mathlib.Core.List.{List, [], _∷_}
 use lib.Dec.{eqb, leb}
+use Rattle.wcsp.specs.Clause.{InRange}
 use Rattle.wcsp.specs.Entry.{Entry, matches, cost}
-use Rattle.fields.specs.Limits.{forbiddenCost}
-use Rattle.fields.specs.Entries.{Entries}
+use Rattle.words.specs.Layout.{kindOf, payloadOf}
+use Rattle.fields.specs.Limits.{maxCost, forbiddenCost}
+use Rattle.fields.specs.Entries.{Entries, costOf}
 
 -- the assignment has a forbidden combination: every binding of an entry that is forbidden
 unfoldable pub hasForbidden : List Entry → List ℕ → Bool
@@ -18,3 +20,16 @@ hasForbidden (e ∷ es) p = (eqb (e .cost) forbiddenCost && matches p (e .bindin
 abbrev pub ForbiddenIsDear : Type 0
 ForbiddenIsDear =
     (ds : List ℕ) (before : ℕ) (es : List Entry) → Entries ds before es → (p : List ℕ) → leb forbiddenCost (cost es p) ≡ hasForbidden es p
+
+-- every assignment has a forbidden combination
+abbrev pub AllForbidden : List ℕ → List Entry → Type 0
+AllForbidden ds es = (p : List ℕ) → InRange ds p → hasForbidden es p ≡ true
+
+-- so if no assignment undercuts a bound that is as high as a forbidden entry's cost
+abbrev pub BoundForbids : Type 0
+BoundForbids = (ds : List ℕ) (before : ℕ) (es : List Entry) → Entries ds before es → (b : ℕ) → forbiddenCost ≤ b
+    → ((p : List ℕ) → InRange ds p → b ≤ cost es p) → AllForbidden ds es
+
+-- of words whose costs are within the limit those of kind 11 have this cost, and no others
+abbrev pub ForbiddenByKind : Type 0
+ForbiddenByKind = (w : ℕ) → (kindOf w ≡ 4 → payloadOf w ≤ maxCost) → eqb (costOf w) forbiddenCost ≡ eqb (kindOf w) 11

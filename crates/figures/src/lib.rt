@@ -16,7 +16,7 @@ pub const PLANNED: usize = 0;
 pub const MOST_SHEETS: u64 = 10000;
 
 // The greatest cost that a plan can have, which has no forbidden combination.
-const GREATEST_COST: u64 = 268431360;
+const GREATEST_ALLOWED: u64 = 268431360;
 
 // The count of each column, the sum of the least costs, and the largest with its sheet (0: none was planned).
 pub struct Figures {
@@ -64,7 +64,7 @@ pub fn takes(figures: Figures) -> bool
     ensures { λ r. ⌜ r ≡ takesSheet figures ⌝ }
 {
     let sheets = sheets(figures);
-    sheets < MOST_SHEETS && figures.sum <= sheets * GREATEST_COST
+    sheets < MOST_SHEETS && figures.sum <= sheets * GREATEST_ALLOWED
 }
 
 fn is_leading(figures: Figures, column: usize, cost: u64) -> bool

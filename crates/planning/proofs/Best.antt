@@ -12,7 +12,7 @@ use Rattle.wcsp.specs.Resolve.{nextPair}
 use Rattle.wcsp.specs.Rebuild.{rebuilt}
 use Rattle.wcsp.proofs.Lists.{along-length}
 use Rattle.fields.specs.Limits.{forbiddenCost}
-use Rattle.fields.specs.Forbidden.{hasForbidden}
+use Rattle.fields.specs.Forbidden.{hasForbidden, AllForbidden}
 use Rattle.sheet.specs.Sheet.{sheetFault, sheetSizes}
 use Rattle.input.specs.Instance.{sizesOf, entriesOf}
 use Rattle.table.specs.Meaning.{tableSizes, ownRows, capacityOf}
@@ -26,7 +26,7 @@ use Rattle.resolution.specs.Numbers.{outcomeField, runNumber}
 use Rattle.assignment.specs.Calls.{planCall}
 use Rattle.checker.specs.Theorems.{Best}
 use Rattle.calls.specs.Calls.{runAsked, afterCall, afterCalls}
-use Rattle.calls.specs.AllForbidden.{AllForbidden, ForbidsExactly}
+use Rattle.calls.specs.Forbids.{ForbidsExactly}
 use Rattle.calls.specs.Demand.{UpheldFrom}
 use Rattle.calls.proofs.Upholding.{demand3}
 use Rattle.planning.specs.Solving.{tableBuffer, stepLimit}

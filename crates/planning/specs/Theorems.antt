@@ -8,7 +8,7 @@ use Rattle.wcsp.specs.Clause.{InRange}
 use Rattle.wcsp.specs.Row.{Row, emptyWeight}
 use Rattle.wcsp.specs.Entry.{Entry, cost}
 use Rattle.fields.specs.Limits.{forbiddenCost}
-use Rattle.fields.specs.Forbidden.{hasForbidden}
+use Rattle.fields.specs.Forbidden.{hasForbidden, AllForbidden}
 use Rattle.sheet.specs.Sheet.{sheetFault, sheetSizes}
 use Rattle.input.specs.Instance.{sizesOf, entriesOf}
 use Rattle.table.specs.Layout.{capacity}
@@ -19,7 +19,6 @@ use Rattle.resolution.specs.Numbers.{outcomeField}
 use Rattle.assignment.specs.Calls.{planCall}
 use Rattle.checker.specs.Theorems.{Best}
 use Rattle.calls.specs.Calls.{Derives}
-use Rattle.calls.specs.AllForbidden.{AllForbidden}
 use Rattle.calls.specs.Demand.{RunEnds}
 use Rattle.planning.specs.declared.Ending.{Ending}
 use Rattle.planning.specs.declared.Solved.{Solved}

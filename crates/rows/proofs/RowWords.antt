@@ -10,7 +10,7 @@ use lib.Seq.{getD-drop}
 use lib.Dec.{eqb}
 use borrow.Author.Tests.{eqb-true, eqb-false, eq-eqb, ne-eqb}
 use Rattle.wcsp.specs.Clause.{same}
-use Rattle.wcsp.proofs.Lists.{both-true, and-left, and-right, ne-true}
+use Rattle.wcsp.proofs.Lists.{and-left, and-right, ne-true}
 use Rattle.words.specs.Layout.{kindOf, payloadOf, signsWord, weightWord, highWord}
 use Rattle.clause.specs.declared.Clause.{Clause}
 use Rattle.clause.specs.Packed.{FitsBlocks, signsOf}

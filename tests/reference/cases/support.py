@@ -51,12 +51,6 @@ def assignments(sizes):
     return product(*(range(size) for size in sizes))
 
 
-def all_forbidden(sizes, entries):
-    """Whether every assignment has all bindings of some forbidden entry."""
-    banned = [set(bindings) for bindings, cost in entries if cost == FORBIDDEN_WEIGHT]
-    return all(any(bindings <= set(enumerate(assignment)) for bindings in banned) for assignment in assignments(sizes))
-
-
 def plain_falsified(rows, assignment):
     return sum(weight for signs, weight in rows
                if not any(value in value_set(sign) for value, sign in zip(assignment, signs)))

@@ -4,10 +4,10 @@ import random
 from itertools import product
 
 from reference import check_call, complete_call, encode, plan_call, run_call, step_call
-from reference.fields import instance, table_length
+from reference.fields import all_forbidden, instance, table_length
 from reference.limits import FORBIDDEN_WEIGHT
 
-from .support import Comparison, all_forbidden, cost_table, random_field
+from .support import Comparison, cost_table, random_field
 
 
 class Fields(Comparison):

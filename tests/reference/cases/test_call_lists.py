@@ -4,11 +4,12 @@ import random
 from itertools import combinations
 
 from reference import check_call, complete_call, encode, plan_call, run_call, step_call, words
-from reference.fields import instance, table_length
+from reference.fields import all_forbidden, instance, table_length
+from reference.limits import ROW_WORDS
 from reference.tables import empty_weight, read_table
 
 from .plain import may_resolve, plain_rows
-from .support import Comparison, all_forbidden, cost_table, random_field
+from .support import Comparison, cost_table, random_field
 
 
 class CallLists(Comparison):
@@ -42,7 +43,7 @@ class CallLists(Comparison):
     def tight_table(self, rng, source):
         """The encoded table in a slice that has often no room for what the steps need."""
         sizes, rows = read_table(encode(source, [5] * 500).table)
-        length = table_length(len(sizes), len(rows) + rng.choice([0, 0, 1, 60]), rng.randrange(6))
+        length = table_length(len(sizes), len(rows) + rng.choice([0, 0, 1, 60]), rng.randrange(ROW_WORDS))
         return encode(source, [5] * length).table
 
     def one_call(self, rng, table, derivation):

@@ -4,7 +4,7 @@ import random
 
 from reference import step_call
 from reference.fields import table_length
-from reference.limits import MAX_WEIGHT
+from reference.limits import MAX_WEIGHT, ROW_WORDS
 from reference.tables import Row, table_words
 
 from .support import Comparison
@@ -20,7 +20,7 @@ def random_table(rng):
     weights = rng.choice(WEIGHTS)
     rows = [Row(clause, rng.choice(weights)) for clause in sorted(signs)]
     rng.shuffle(rows)
-    length = table_length(len(sizes), len(rows) + rng.choice([0, 1, 2, 30]), rng.randrange(6))
+    length = table_length(len(sizes), len(rows) + rng.choice([0, 1, 2, 30]), rng.randrange(ROW_WORDS))
     return table_words(sizes, rows, length)
 
 

@@ -14,7 +14,7 @@ from .support import CONSTANT_FIRST, EXAMPLE, GROWING, HERE, LONGEST
 SOLVE = cache(solved)
 # In these GROWING is full after a step, CONSTANT_FIRST is paused after two, and EIGHT_ROWS do not fit.
 SMALL = cache(partial(solved, buffers=Buffers(table=34, limit=2)))
-FORBIDDEN = costing(FORBIDDEN_WEIGHT)
+FORBIDDEN_SHEET = costing(FORBIDDEN_WEIGHT)
 EIGHT_ROWS = as_bytes(sheet([[HERE] * 8], [([(0, spot)], 1) for spot in range(8)]))
 
 
@@ -107,8 +107,8 @@ class Counts(Lines):
         self.prints(season([EIGHT_ROWS]), "1  0 0 0 0 0 0 0 0  0 0  1 1 1")
 
     def test_forbidden_under_15(self):
-        self.prints(season([FORBIDDEN]), "0  0 0 0 0 0 0 0 1  0 0  0 0 0")
-        self.prints(season([costing(3), FORBIDDEN, costing(65_535), FORBIDDEN]), "2  0 0 0 0 0 0 0 2  0 0  65538 65535 3")
+        self.prints(season([FORBIDDEN_SHEET]), "0  0 0 0 0 0 0 0 1  0 0  0 0 0")
+        self.prints(season([costing(3), FORBIDDEN_SHEET, costing(65_535), FORBIDDEN_SHEET]), "2  0 0 0 0 0 0 0 2  0 0  65538 65535 3")
         # One that is paused counts as such, however high its bound.
         paused = as_bytes(sheet([[HERE] * 3], [forbidden(), ([(0, 0)], 2), ([(0, 1)], 1), ([(0, 2)], 4)]))
         self.prints(season([paused]), "0  0 0 0 0 0 0 0 0  1 0  0 0 0", SMALL)
@@ -132,7 +132,7 @@ class Counts(Lines):
         self.prints(season(sheets), "1  0 0 0 0 0 0 1 0  2 3  4 4 3", SMALL)
 
     def test_every_sheet_counts_once(self):
-        sheets = [EXAMPLE, NO_WORDS, GROWING, EIGHT_ROWS, EXAMPLE[:-4], CONSTANT_FIRST, FORBIDDEN, costing(1)] * 3
+        sheets = [EXAMPLE, NO_WORDS, GROWING, EIGHT_ROWS, EXAMPLE[:-4], CONSTANT_FIRST, FORBIDDEN_SHEET, costing(1)] * 3
         numbers = [int(number) for number in season_line(season(sheets) + b"\0", SMALL).split()]
         self.assertEqual(sum(numbers[:11]), len(sheets) + 1)
 

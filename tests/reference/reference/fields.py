@@ -28,6 +28,13 @@ def forbidden(*bindings):
     return list(bindings), FORBIDDEN_WEIGHT
 
 
+def all_forbidden(sizes, entries):
+    """Whether every assignment has all bindings of some forbidden entry."""
+    banned = [set(bindings) for bindings, cost in entries if cost == FORBIDDEN_WEIGHT]
+    return bool(banned) and all(any(bindings <= set(enumerate(assignment)) for bindings in banned)
+                                for assignment in product(*map(range, sizes)))
+
+
 def high_cost(forbidden_total, cost):
     """An instance of two values: the first is so often forbidden and has this cost, too; the second is free."""
     return instance([2], [forbidden((0, 0))] * forbidden_total + [([(0, 0)], cost)])

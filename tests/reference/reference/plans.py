@@ -2,7 +2,7 @@
 
 from typing import NamedTuple
 
-from .answers import FORBIDDEN, BAD_FIXED, GOOD, PAIR_LEFT, TARGET_TOO_SHORT, WEIGHT_TOO_HIGH, Refused, require
+from .answers import BAD_FIXED, FORBIDDEN, GOOD, PAIR_LEFT, TARGET_TOO_SHORT, WEIGHT_TOO_HIGH, Refused, require
 from .clauses import bucket_of, falsifies, full
 from .inputs import in_range
 from .limits import FORBIDDEN_WEIGHT, MAX_WEIGHT

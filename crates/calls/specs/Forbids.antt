@@ -2,25 +2,20 @@
 use Prim.Native.Nat.{ℕ, _≤_, _<_}
 use mathlib.Core.Path.{_≡_}
 use mathlib.Core.Logic.{_↔_}
-use mathlib.Core.Bool.{true, false}
+use mathlib.Core.Bool.{false}
 use mathlib.Core.List.{List}
 use mathlib.Core.Option.{none}
 use lib.ListN.{length}
-use Rattle.wcsp.specs.Clause.{InRange}
 use Rattle.wcsp.specs.Row.{emptyWeight}
 use Rattle.wcsp.specs.Entry.{Entry}
 use Rattle.wcsp.specs.Resolve.{nextPair}
 use Rattle.wcsp.specs.Rebuild.{rebuilt}
 use Rattle.fields.specs.Limits.{forbiddenCost}
-use Rattle.fields.specs.Forbidden.{hasForbidden}
+use Rattle.fields.specs.Forbidden.{hasForbidden, AllForbidden}
 use Rattle.input.specs.Instance.{sizesOf, entriesOf}
 use Rattle.table.specs.Meaning.{ownRows}
 use Rattle.encoding.specs.Calls.{encodeCall}
 use Rattle.checker.specs.Calls.{checkCall}
-
--- every assignment has a forbidden combination
-abbrev pub AllForbidden : List ℕ → List Entry → Type 0
-AllForbidden ds es = (p : List ℕ) → InRange ds p → hasForbidden es p ≡ true
 
 -- the empty row is as heavy as a forbidden entry exactly if every assignment has a forbidden combination; else the rebuilt one has none
 pub record ForbidsExactly (ds : List ℕ) (es : List Entry) (t : List ℕ) : Type 0 where
