@@ -57,7 +57,8 @@ enum gotalhim_number {
     GOTALHIM_BAD_HEAD = 1,          /* no words, first word not a head, or n not 1 to 12 */
     GOTALHIM_BAD_VARIABLE = 2,      /* size or coordinate word missing, of a wrong kind or out of range */
     GOTALHIM_BAD_ENTRY = 3,         /* entry word of a wrong kind, unknown variable or value, variables not rising, a
-                                       forbidden word with a payload, or neither cost nor forbidden word at the end */
+                                       forbidden word with a payload other than 0, or neither cost nor forbidden word at
+                                       the end */
     GOTALHIM_COST_TOO_HIGH = 4,     /* cost above 65,535 */
     GOTALHIM_TOO_MANY_ENTRIES = 5,  /* the 4,097th cost or forbidden word, if 3 and 4 do not apply to it; in a sheet the
                                        costs of travel between neighbouring variables are counted first */
@@ -165,8 +166,8 @@ uint32_t gotalhim_plan(const uint32_t *table, size_t table_length,
  * gotalhim_check left of one, the plan that is written costs the answer, no plan with these fixed values costs less, and
  * 11 does not occur; the answer is GOTALHIM_FORBIDDEN_WEIGHT or more exactly if every plan with these fixed values has a
  * forbidden combination. With k = n no value is fixed: the plan is that of gotalhim_plan, and the answer is the weight of
- * the row without literals, 0 if there is none. The number is never 15: with k = n the plan that gotalhim_plan then does
- * not write is written, with its cost.
+ * the row without literals, 0 if there is none. The number is never 15: with k = n, where gotalhim_plan answers 15, the
+ * plan is written all the same, with its cost.
  * Tests, in this order: 9; 10 if the target is shorter than n bytes; 14; 13; 11.
  * Answer: the weight of the rows without variables below k that the fixed values falsify.
  * Memory: all n bytes of the plan in front of the target, the fixed ones as given, the rest kept. As everywhere, the fixed

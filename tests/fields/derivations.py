@@ -3,7 +3,7 @@
 import random
 from itertools import chain as chain_of
 
-from chosen import GROWING, NONE_LEFT, ONE_LEFT, chain, long_chain, scattered
+from chosen import GROWING, NONE_LEFT, TWO_LEFT, chain, long_chain, scattered
 from lists import SMALL_FIELDS
 from records import recorded
 from reference import fields, words
@@ -127,7 +127,7 @@ def changed(record):
 def short_records(both, chance):
     """All damage, each bit of each word included."""
     chains = [chain(chance, [3, 2]), chain(chance, [2, 2, 2])]
-    for index, field in enumerate(SMALL_FIELDS + [GROWING, NONE_LEFT, ONE_LEFT] + chains):
+    for index, field in enumerate(SMALL_FIELDS + [GROWING, NONE_LEFT, TWO_LEFT] + chains):
         record = recorded(field, index % ROW_WORDS)
         for spoiled in chain_of(changed(record), flipped_bits(record), faulty_instances(chance, record)):
             check(both, spoiled)

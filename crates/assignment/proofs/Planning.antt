@@ -1,4 +1,4 @@
--- The plan call: what each return leaves is what the definition says, by the table's test and by whether a pair is left.
+-- The plan call: what each return leaves is what the definition says, by the table's test, whether a pair is left and the empty row's weight.
 use Prim.Native.Nat.{ℕ, _+_, _<_, _≤_}
 use native.Mathlib.Nat.{le-refl}
 use native.Mathlib.Omega.{arith}

@@ -20,7 +20,7 @@ isLeft (some pr) = true
 abbrev pub tablePair : List ℕ → Option Pair
 tablePair t = nextPair (tableSizes t) (ownRows t)
 
--- 9 for an invalid table; 10 for a target shorter than n bytes; 13 while a pair remains; 15 for an empty row as heavy as a forbidden entry
+-- 9 for an invalid table; 10 for a target shorter than n bytes; 13 while a pair remains; 15 for an empty row at least as heavy as a forbidden entry
 abbrev pub testsOfPlan : List ℕ → List ℕ → List Test
 testsOfPlan t target =
     9 if not (validTable t)

@@ -98,7 +98,7 @@ pub record SeasonTells (file : List ℕ) : Type 0 where
   pub planned : Each (λ sheet. isPlanned (figureOfSheet sheet) ≡ true → PlannedAt sheet (figureOfSheet sheet .cost)) (seasonSheets file)
   -- the largest and its sheet
   pub largest : LargestOf (map figureOfSheet (seasonSheets file)) (seasonFigures file .largest) (seasonFigures file .first)
-  -- no sum passes 10,000 times the greatest cost of a plan
+  -- no sum passes 10,000 times the greatest cost of a plan without a forbidden combination
   pub bounded : seasonFigures file .sum ≤ mostSheets * greatestAllowed
 
 abbrev pub SeasonMeans : Type 0

@@ -85,7 +85,7 @@ pub record Upheld (ds : List ℕ) (es : List Entry) (from : List Row) (t′ ws :
   pub runNumbers : (limit : ℕ) (slice : List ℕ)
       → let k = runNumber (runCall t′ limit slice .answer) in
       (k ≡ 0) ⊎ (k ≡ 12)
-  -- a further plan call: 10 for a short target, 13 while a pair is left, 15 for an empty row as heavy as a forbidden entry, else the rebuilt assignment
+  -- a further plan call: 10 for a short target, 13 while a pair is left, 15 for an empty row at least as heavy as a forbidden entry, else the rebuilt assignment
   pub planShort : (target : List ℕ) → length target < length ds → planCall t′ target ≡ record { number = 10; target = target }
   pub planEarly : (target : List ℕ) (pr : Pair) → length ds ≤ length target → nextPair ds (ownRows t′) ≡ some pr
       → planCall t′ target ≡ record { number = 13; target = target }
@@ -98,7 +98,7 @@ pub record Upheld (ds : List ℕ) (es : List Entry) (from : List Row) (t′ ws :
   pub best : nextPair ds (ownRows t′) ≡ none → Best ds es (rebuilt ds (ownRows t′)) (emptyWeight (length ds) (ownRows t′))
   -- and, of document 02, every fixed tail is completed at least cost
   pub completed : CompletesBest ds es t′
-  -- and the empty row is as heavy as a forbidden entry exactly if every assignment has a forbidden combination; else the rebuilt one has none
+  -- and the empty row is at least as heavy as a forbidden entry exactly if every assignment has a forbidden combination; else the rebuilt one has none
   pub forbidden : nextPair ds (ownRows t′) ≡ none → ForbidsExactly ds es t′
 
 -- the table t′ and the derivation ws that calls left of an encoding of inst in t: the slice is as long, and the steps started from the encoding

@@ -17,7 +17,7 @@ use Rattle.table.specs.Meaning.{ownRows}
 use Rattle.encoding.specs.Calls.{encodeCall}
 use Rattle.checker.specs.Calls.{checkCall}
 
--- the empty row is as heavy as a forbidden entry exactly if every assignment has a forbidden combination; else the rebuilt one has none
+-- the empty row is at least as heavy as a forbidden entry exactly if every assignment has a forbidden combination; else the rebuilt one has none
 pub record ForbidsExactly (ds : List ℕ) (es : List Entry) (t : List ℕ) : Type 0 where
   pub exactly : (forbiddenCost ≤ emptyWeight (length ds) (ownRows t)) ↔ AllForbidden ds es
   pub free : emptyWeight (length ds) (ownRows t) < forbiddenCost → hasForbidden es (rebuilt ds (ownRows t)) ≡ false

@@ -1,4 +1,4 @@
--- With k = n nothing is fixed: where the plan call gives its plan or 15, the complete call gives that plan, and the empty row's weight as its cost.
+-- With k = n nothing is fixed: where the plan call gives its plan or 15, the complete call gives the rebuilt plan, and the empty row's weight as its cost.
 use Prim.Native.Nat.{ℕ}
 use mathlib.Core.Path.{_≡_}
 use mathlib.Core.Bool.{_||_, cond}

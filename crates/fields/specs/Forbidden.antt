@@ -25,11 +25,11 @@ ForbiddenIsDear =
 abbrev pub AllForbidden : List ℕ → List Entry → Type 0
 AllForbidden ds es = (p : List ℕ) → InRange ds p → hasForbidden es p ≡ true
 
--- so if no assignment undercuts a bound that is as high as a forbidden entry's cost
+-- so if no assignment undercuts a bound that is at least as high as a forbidden entry's cost
 abbrev pub BoundForbids : Type 0
 BoundForbids = (ds : List ℕ) (before : ℕ) (es : List Entry) → Entries ds before es → (b : ℕ) → forbiddenCost ≤ b
     → ((p : List ℕ) → InRange ds p → b ≤ cost es p) → AllForbidden ds es
 
--- of words whose costs are within the limit those of kind 11 have this cost, and no others
+-- a word costs as much as a forbidden entry exactly if it is of kind 11, as long as a cost word's cost is within the limit
 abbrev pub ForbiddenByKind : Type 0
 ForbiddenByKind = (w : ℕ) → (kindOf w ≡ 4 → payloadOf w ≤ maxCost) → eqb (costOf w) forbiddenCost ≡ eqb (kindOf w) 11

@@ -1,9 +1,9 @@
--- The limits of a field (document 01: twelve stations, eight spots, 4,096 entries), and the greatest sum of costs that they allow.
+-- The limits of a field (document 01: twelve stations, eight spots, 4,096 entries; document 02: what a forbidden entry costs), and the greatest costs of an assignment.
 use Prim.Native.Nat.{ℕ, _*_}
 use mathlib.Core.Bool.{Bool, _&&_}
 use lib.Dec.{leb}
 
--- the most variables, values, entries, and the greatest cost
+-- the most variables, values and entries, and the greatest cost of a cost word
 abbrev pub maxVariables : ℕ
 maxVariables = 12
 

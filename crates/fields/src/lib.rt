@@ -11,7 +11,7 @@ ghost use Rattle.fields.specs.Entries.{costOf};
 ghost use Rattle.fields.specs.Assignment.{isAssignment};
 ghost use Rattle.fields.specs.Answers.{refused, good};
 
-// The most variables, values and entries of a field, the greatest cost of an entry, and what a forbidden one costs.
+// The most variables, values and entries of a field, the greatest ordinary cost of an entry, and what a forbidden one costs.
 pub const MAX_VARIABLES: usize = 12;
 
 pub const MAX_VALUES: u32 = 8;

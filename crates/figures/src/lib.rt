@@ -15,7 +15,7 @@ pub const PLANNED: usize = 0;
 // Reading ends after this sheet.
 pub const MOST_SHEETS: u64 = 10000;
 
-// The greatest cost that a plan can have, which has no forbidden combination.
+// The greatest cost of a plan without a forbidden combination.
 const GREATEST_ALLOWED: u64 = 268431360;
 
 // The count of each column, the sum of the least costs, and the largest with its sheet (0: none was planned).

@@ -1,4 +1,4 @@
--- `plan` meets its contract: the table's test, the target's length and whether a pair is left decide as in the definition.
+-- `plan` meets its contract: the table's test, the target's length, whether a pair is left and the empty row's weight decide as in the definition.
 use native.Mathlib.Omega.{arith}
 use borrow.Author.Needs.{needs}
 use Rattle.assignment.proofs.Planning.{not-a-table, told, variables-few, may-weigh, too-short, pair-left, forbidden, ready, rebuilt-all}
