@@ -72,8 +72,8 @@ enum gotalhim_number {
     GOTALHIM_TABLE_FULL = 12,       /* the finished encoding or step would need more rows than there is room for */
     GOTALHIM_PAIR_LEFT = 13,        /* plan or completion wanted while a pair is left */
     GOTALHIM_BAD_FIXED = 14,        /* k above n, not exactly n - k fixed values, or one out of range */
-    GOTALHIM_FORBIDDEN = 15         /* plan wanted, but every plan has a forbidden combination: the row without literals
-                                       weighs GOTALHIM_FORBIDDEN_WEIGHT or more */
+    GOTALHIM_FORBIDDEN = 15         /* plan wanted, but the row without literals weighs GOTALHIM_FORBIDDEN_WEIGHT or more;
+                                       in a table from an accepted instance, every plan has a forbidden combination */
 };
 
 /* How a run ended, the first field of its answer. */
@@ -88,7 +88,7 @@ enum gotalhim_outcome {
 #define GOTALHIM_ROW_WORDS 6
 
 /* What a forbidden entry costs, and the greatest weight of a row: one less than 2 to the 56th. */
-#define GOTALHIM_FORBIDDEN_WEIGHT 268431361
+#define GOTALHIM_FORBIDDEN_WEIGHT UINT64_C(268431361)
 #define GOTALHIM_MAX_WEIGHT UINT64_C(72057594037927935)
 
 /* The words of a table over so many variables with room for so many rows. */

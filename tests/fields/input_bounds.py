@@ -74,11 +74,10 @@ def entry_bounds(both):
 
 
 def forbidden_words(both):
-    """The word that forbids, good and with each unnamed bit, and a weight's high word, in the place of every word."""
+    """Words that forbid, good and faulty ones, in the place of every word."""
     entries = [fields.forbidden((0, 0), (1, 1)), ([(1, 0)], 3)]
-    given = [words.forbidden(), words.high_weight(0), words.high_weight(1)] + [words.forbidden(1 << bit) for bit in range(28)]
     instance, sheet = fields.instance([1, 2], entries), fields.sheet([[HERE], [HERE, HERE]], entries)
-    for word in given:
+    for word in fields.FORBIDDEN_WORDS:
         for at in range(len(instance) + 1):
             instance_calls(both, instance[:at] + [word] + instance[at + 1:])
         for at in range(len(sheet) + 1):

@@ -6,15 +6,17 @@ import tempfile
 from pathlib import Path
 
 from commands import EXAMPLES, check_arguments
-from figured import figured, figured_from, figured_to_full, season_with
+from figured import THREE, figured, figured_from, figured_to_full, season_with
 
 UNREADABLE = "season: the season cannot be read\n"
+LINE = THREE.decode().strip()
 # Programs in place of the true one, and what is said of each.
 PROGRAMS = {
     "silent": ("exit 0", "season: the program gave no answer\n"),
-    "failing": ("echo 1 2 3; exit 3", "season: the program ended with status 3\n"),
+    "failing": (f"echo {LINE}; exit 3", "season: the program ended with status 3\n"),
     "killed": ("kill -9 $$", "season: the program ended with status 137\n"),
     "complaining": ("echo 'season: the season cannot be read' >&2", UNREADABLE),
+    "cut": (f"printf '{LINE}'", f"season: the program's answer is unknown: {LINE}\n"),
     "short": ("echo 1 2 3", "season: the program's answer is unknown: 1 2 3\n"),
     "astray": ("echo PLAN", "season: the program's answer is unknown: PLAN\n"),
 }

@@ -139,6 +139,21 @@ static int forbids(uint32_t variables, uint32_t forbidden)
                == GOTALHIM_GOOD;
 }
 
+/* Whether a plan with two forbidden entries at each variable costs as many times the cost of one, in 64 bits. */
+static int adds(uint32_t variables)
+{
+    uint32_t instance[INSTANCE_WORDS];
+    const uint8_t plan[GOTALHIM_MAX_VARIABLES] = {0};
+    uint64_t cost = 9;
+    size_t length = write_instance(instance, variables, 0);
+    for (uint32_t entry = 0; entry < 2 * variables; entry++) {
+        instance[length++] = 3u << 28 | (entry / 2) << 8;
+        instance[length++] = 11u << 28;
+    }
+    return gotalhim_cost(instance, length, plan, variables, &cost, 1) == GOTALHIM_GOOD
+        && cost == 2 * variables * GOTALHIM_FORBIDDEN_WEIGHT;
+}
+
 int main(void)
 {
     print_values();
@@ -159,6 +174,11 @@ int main(void)
                 printf("%u forbidden values over %u variables do not agree\n", (unsigned)forbidden, (unsigned)variables);
                 return 1;
             }
+    for (uint32_t variables = 1; variables <= GOTALHIM_MAX_VARIABLES; variables++)
+        if (!adds(variables)) {
+            printf("forbidden entries over %u variables do not add up\n", (unsigned)variables);
+            return 1;
+        }
     for (size_t words = 0; words < 30000; words += 100)
         printf("rows of %lu words: %lu %lu\n", (unsigned long)words, (unsigned long)GOTALHIM_TABLE_ROWS(1, words),
                (unsigned long)GOTALHIM_TABLE_ROWS(12, words));

@@ -56,14 +56,19 @@ def check_bounds(checks, sheets, expected):
     checks.same("outcomes with a forbidden constant", outcomes, {"PAUSED", "FULL"})
 
 
+def check_program(checks, folder, text, due):
+    """The status and what is said last, with a program that prints this text in place of the true one."""
+    made, path = repository(folder, f"#!/bin/sh\necho '{text}'\n")
+    status, printed, told = planned(["-"], as_bytes(EXAMPLE), command=made / "plan", path=path)
+    checks.same(f"what is said of {text}", (status, printed, told.splitlines(keepends=True)[-1]), (due[0], f"{text}\n".encode(), due[1]))
+
+
 def check_edge(checks, folder):
-    """The highest bound that is told and the lowest that is not, with a program that prints them in place of the true one."""
+    """The highest bound that is told and the lowest that is not; what is no bound tells nothing."""
     for bound in (FORBIDDEN_WEIGHT - 1, FORBIDDEN_WEIGHT):
-        text = f"PAUSED 9 BOUND {bound}\n"
-        made, path = repository(folder / str(bound), f"#!/bin/sh\necho '{text.strip()}'\n")
-        status, printed, told = planned(["-"], as_bytes(EXAMPLE), command=made / "plan", path=path)
-        checks.same(f"what is said of a bound of {bound}", (status, printed, told.splitlines(keepends=True)[-1]),
-                    (STATUS["PAUSED"], text.encode(), PAUSED.format(9, said_by(bound))))
+        check_program(checks, folder / str(bound), f"PAUSED 9 BOUND {bound}", (STATUS["PAUSED"], PAUSED.format(9, said_by(bound))))
+    for text in ("PAUSED 9 BOUND", "FULL 9 BOUND x", "FULL"):
+        check_program(checks, folder / text.replace(" ", "-"), text, (1, "plan: the program's answer is unknown\n"))
 
 
 def run(checks):

@@ -22,12 +22,12 @@ def entry_calls():
 
 
 def forbidden_calls():
-    """A forbidden entry's word, good and with each unnamed bit, in the place of every word of a sheet and an instance."""
+    """Words that forbid, good and faulty ones, in the place of every word of a sheet and an instance."""
     sheet = fields.sheet([[(0, 0)], [(0, 0), (300, 400)]], [fields.forbidden((0, 0), (1, 1)), ([], 3)])
     instance = fields.instance([1, 2], [fields.forbidden((0, 0), (1, 1)), ([], 3)])
-    given = [words.forbidden()] + [words.forbidden(1 << bit) for bit in range(28)] + [words.high_weight(0), words.high_weight(1)]
-    made = [calls.make(sheet[:at] + [word] + sheet[at + 1:], [0] * 40) for at in range(len(sheet)) for word in given]
-    return made + [calls.cost(instance[:at] + [word] + instance[at + 1:], [0, 1]) for at in range(len(instance)) for word in given]
+    made = [calls.make(sheet[:at] + [word] + sheet[at + 1:], [0] * 40) for at in range(len(sheet)) for word in fields.FORBIDDEN_WORDS]
+    return made + [calls.cost(instance[:at] + [word] + instance[at + 1:], [0, 1])
+                   for at in range(len(instance)) for word in fields.FORBIDDEN_WORDS]
 
 
 def full_calls():

@@ -6,9 +6,10 @@ use mathlib.Core.Logic.{_⊎_, inl, inr, _↔_}
 use mathlib.Core.Bool.{Bool, true, false, cond}
 use mathlib.Core.List.{List, [], _∷_}
 use mathlib.Core.Option.{Option, none, some}
-use lib.ListN.{length}
-use lib.Dec.{leb, ltb}
-use borrow.Author.Tests.{lt-leb, leb-true, lt-ltb, le-ltb}
+use lib.ListN.{length, drop}
+use lib.Dec.{ltb}
+use borrow.Author.Tests.{lt-leb, lt-ltb, le-ltb}
+use Rattle.wcsp.specs.Clause.{InRange}
 use Rattle.wcsp.specs.Row.{Row, emptyWeight}
 use Rattle.wcsp.specs.Entry.{Entry, cost}
 use Rattle.wcsp.specs.Resolve.{Pair, nextPair, resolve}
@@ -18,9 +19,9 @@ use Rattle.wcsp.proofs.Bound.{stepsBounded, bound-fixed}
 use Rattle.wcsp.proofs.Completeness.{optimality}
 use Rattle.wcsp.proofs.Least.{best-from}
 use Rattle.fields.specs.Limits.{forbiddenCost}
-use Rattle.fields.specs.Forbidden.{hasForbidden, AllForbidden}
+use Rattle.fields.specs.Forbidden.{hasForbidden, AllForbidden, AllForbiddenFrom}
 use Rattle.fields.proofs.Costs.{entries-costs}
-use Rattle.fields.proofs.Forbidden.{forbiddenIsDear, boundForbids}
+use Rattle.fields.proofs.Forbidden.{forbiddenIsDear, least-forbids}
 use Rattle.rows.specs.Raw.{maxWeight}
 use Rattle.table.specs.Layout.{capacity, tableWords}
 use Rattle.table.specs.Meaning.{ownRows}
@@ -89,31 +90,45 @@ module _ {len : ℕ} {ds : List ℕ} {es : List Entry} (a : Takes len ds es) whe
           least = keeps-below (l .keeps);
         }
 
+    completions-best : nextPair ds rs ≡ none → (k : ℕ) (fixed : List ℕ) → k ≤ length ds → InRange (drop k ds) fixed
+        → BestFrom ds es k fixed (rebuiltOver ds rs k fixed) (tailWeight k fixed rs)
+    completions-best e = best-from ds es rs (a .sizes .positive) (l .keeps .valid) e (l .keeps .weights)
+
     pub completed-rows : CompletesBest ds es t′
     completed-rows = rw (h .rows) (λ k fixed target room low r e.
-        let best : BestFrom ds es k fixed (rebuiltOver ds rs k fixed) (tailWeight k fixed rs)
-        = best-from ds es rs (a .sizes .positive) (l .keeps .valid) e (l .keeps .weights) k fixed low r in
+        let best = completions-best e k fixed low r in
         let light : tailWeight k fixed rs ≤ maxWeight = omega (arith, best .attained, entries-costs (a .entries) (rebuiltOver ds rs k fixed)) in
         (complete-written h k fixed target room low r e light, best))
-
-    dear : (p : List ℕ) → leb forbiddenCost (cost es p) ≡ hasForbidden es p
-    dear p = forbiddenIsDear ds 0 es (a .entries) p
 
     -- by the rebuilt assignment, whose cost is the empty row's weight, and by what no cost is below
     heavy-all : nextPair ds rs ≡ none → (forbiddenCost ≤ emptyWeight (length ds) rs) ↔ AllForbidden ds es
     heavy-all e =
-        let m : ℕ = emptyWeight (length ds) rs in
-        let b = best-rows e in (
-          λ (w : forbiddenCost ≤ m). boundForbids ds 0 es (a .entries) m w (b .least),
-          λ (all : AllForbidden ds es).
-              omega (arith, b .attained, leb-true forbiddenCost (cost es (rebuilt ds rs)) (dear (rebuilt ds rs) ∙ all (rebuilt ds rs) (b .inRange))),
-        )
+        let b = best-rows e in
+        least-forbids (a .entries) (InRange ds) (emptyWeight (length ds) rs) (rebuilt ds rs) (b .inRange) (b .attained) (b .least)
 
     light-free : nextPair ds rs ≡ none → emptyWeight (length ds) rs < forbiddenCost → hasForbidden es (rebuilt ds rs) ≡ false
-    light-free e w = sym (dear (rebuilt ds rs)) ∙ lt-leb forbiddenCost (cost es (rebuilt ds rs)) (omega (arith, best-rows e .attained))
+    light-free e w = sym (forbiddenIsDear ds 0 es (a .entries) (rebuilt ds rs)) ∙ lt-leb forbiddenCost (cost es (rebuilt ds rs)) (omega (arith, best-rows e .attained))
 
+    heavy-completions : nextPair ds rs ≡ none → (k : ℕ) (fixed : List ℕ) → k ≤ length ds → InRange (drop k ds) fixed
+        → (forbiddenCost ≤ tailWeight k fixed rs) ↔ AllForbiddenFrom ds es k fixed
+    heavy-completions e k fixed low r =
+        let b = completions-best e k fixed low r in
+        let f = least-forbids (a .entries) (λ p. InRange ds p × (drop k p ≡ fixed)) (tailWeight k fixed rs) (rebuiltOver ds rs k fixed)
+        (b .inRange, b .agrees) (b .attained) (λ p q. b .least p (q .0) (q .1)) in
+        (λ w p i d. f .0 w p (i, d), λ (all : AllForbiddenFrom ds es k fixed). f .1 (λ p q. all p (q .0) (q .1)))
+
+    -- the comparisons of the statement from those above
     pub forbidden-rows : nextPair ds rs ≡ none → ForbidsExactly ds es t′
-    forbidden-rows e = record { exactly = rw (h .rows) (heavy-all e); free = rw (h .rows) (light-free e) }
+    forbidden-rows e =
+        record {
+          exactly = rw (h .rows) (λ w. heavy-all e .0 (omega (arith, w)), λ all. omega (arith, heavy-all e .1 all));
+          free = rw (h .rows) (λ w. light-free e (omega (arith, w)));
+          completing =
+              rw (h .rows) (λ k fixed low r. (
+                λ w. heavy-completions e k fixed low r .0 (omega (arith, w)),
+                λ all. omega (arith, heavy-completions e k fixed low r .1 all),
+              ));
+        }
 
     -- ---- further calls
 

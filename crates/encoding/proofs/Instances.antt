@@ -3,7 +3,6 @@ use Prim.Native.Nat.{ℕ, zero, suc, _+_, _-_, _*_, _^_, _<_, _≤_}
 use native.Mathlib.Nat.{le-of-suc-le-suc}
 use native.Mathlib.Omega.{arith}
 use mathlib.Core.Path.{_≡_, refl, sym, ap, _∙_}
-use mathlib.Core.Logic.{_⊎_}
 use mathlib.Core.Bool.{Bool, true, false, _&&_, cond}
 use mathlib.Core.List.{List, [], _∷_, map}
 use lib.ListN.{length, getD, drop, replicate, length-drop, List·getD-append, List·getD-eq-default}
@@ -16,9 +15,9 @@ use Rattle.wcsp.specs.Widening.{wideRows}
 use Rattle.wcsp.proofs.Signs.{full-at, single-le-full}
 use Rattle.wcsp.proofs.WideningTables.{wideEncoded}
 use Rattle.words.specs.Layout.{kindOf, variableIn, valueIn}
-use Rattle.fields.specs.Limits.{maxCost, forbiddenCost}
+use Rattle.fields.specs.Limits.{forbiddenCost}
 use Rattle.fields.specs.Front.{goodSizes}
-use Rattle.fields.specs.Entries.{Each, EachSize, nilEach, consEach, entriesFrom}
+use Rattle.fields.specs.Entries.{Each, EachSize, EntryCost, nilEach, consEach, entriesFrom}
 use Rattle.fields.specs.Padding.{padded, lacking}
 use Rattle.fields.proofs.Fronts.{good-long}
 use Rattle.fields.proofs.Sizes.{each-positive}
@@ -91,7 +90,7 @@ proper-at ds l s v a h =
 
 -- ---- costs
 
-total-bounded : (es : List Entry) → Each (λ e. (e .cost ≤ maxCost) ⊎ (e .cost ≡ forbiddenCost)) es → total es ≤ forbiddenCost * length es
+total-bounded : (es : List Entry) → Each (λ e. EntryCost (e .cost)) es → total es ≤ forbiddenCost * length es
 unfolding total
 total-bounded [] nilEach = omega arith
 total-bounded (e ∷ es) (consEach h r) = omega (arith, total-bounded es r, priced-bounded (e .cost) h)

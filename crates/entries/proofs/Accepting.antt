@@ -2,7 +2,7 @@
 use Prim.Native.Nat.{ℕ, suc, _≤_, _<_}
 use native.Mathlib.Omega.{arith}
 use mathlib.Core.Path.{_≡_, refl}
-use mathlib.Core.Logic.{_⊎_, inl, inr}
+use mathlib.Core.Logic.{inl, inr}
 use mathlib.Core.Bool.{Bool, true, false, _&&_, _||_, cond}
 use mathlib.Core.List.{List, [], _∷_, _++_}
 use lib.ListN.{length, getD}
@@ -11,7 +11,7 @@ use borrow.Author.Tests.{leb-true, leb-false, ltb-true, ltb-false}
 use Rattle.wcsp.specs.Entry.{Binding, Rising, nilRising, consRising, nilEntries, consEntries}
 use Rattle.words.specs.Layout.{kindOf, payloadOf, variableIn, valueIn}
 use Rattle.fields.specs.Limits.{maxCost, maxEntries, forbiddenCost}
-use Rattle.fields.specs.Entries.{entriesFrom, nilEach, consEach, Entries}
+use Rattle.fields.specs.Entries.{entriesFrom, nilEach, consEach, EntryCost, Entries}
 use Rattle.entries.specs.Entries.{goes, stops, scanBinding, scanClosing, scanCost, scanForbidden, scanWord, resume, entriesFault}
 use Rattle.entries.proofs.Scanning.{known}
 
@@ -61,7 +61,7 @@ module _ (ds : List ℕ) where
 
   -- a good word that closes an entry of cost c, at most the limit or that of a forbidden one
   closing-kept : (count c : ℕ) (ws : List ℕ) (from : ℕ) (bs : List Binding) → Rest 0 (suc count) ws → Rises ds 0 bs from
-      → (c ≤ maxCost) ⊎ (c ≡ forbiddenCost)
+      → EntryCost c
       → resume (λ f k. entriesFault ds f k ws) (scanClosing count) ≡ 0 → Entries ds count (record { bindings = bs; cost = c } ∷ entriesFrom [] ws)
   unfolding Rest resume scanClosing
   closing-kept count c ws from bs ih r h e = go (leb maxEntries count) refl e

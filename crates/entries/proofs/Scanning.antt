@@ -173,7 +173,7 @@ binding-goes ds from count v a f c e = go (leb from v && ltb a (getD ds v 0)) e
     go true e = cc
     go false e = let z : _≡_ {A = ℕ} 0 1 = cc in absurd (omega arith)
 
-other-goes : (f c k : ℕ) → goes f c ≡ stops k → ⊥
+pub other-goes : (f c k : ℕ) → goes f c ≡ stops k → ⊥
 other-goes f c k e = let z : _≡_ {A = ℕ} 0 1 = cc in omega arith
 
 closing-goes : (count f c : ℕ) → goes f c ≡ scanClosing count → c ≡ suc count

@@ -1,4 +1,4 @@
--- Words that close an entry: a cost word and a forbidden one do, a binding does not, and a word that closes none costs nothing.
+-- Words that close an entry: a cost word and a forbidden one do, a binding does not. What such a word costs; one that closes none costs nothing.
 use Prim.Native.Nat.{ℕ}
 use native.Mathlib.Omega.{arith}
 use mathlib.Core.Path.{_≡_, refl}
@@ -26,6 +26,16 @@ module _ (w : ℕ) where
   closes-forbidden p e =
       let k = forbidden-kind w p e .0 in
       (ne-eqb (kindOf w) 3 (omega arith), rw (ne-eqb (kindOf w) 4 (omega arith), eq-eqb (kindOf w) 11 k))
+
+  pub cost-some : (c : ℕ) → wordOf w ≡ Cost c → c ≡ costOf w
+  unfolding costOf
+  cost-some c e = let k = cost-kind w c e in rw (eq-eqb (kindOf w) 4 (k .0), k .1)
+
+  pub cost-forbidden : (p : ℕ) → wordOf w ≡ Forbidden p → forbiddenCost ≡ costOf w
+  unfolding costOf
+  cost-forbidden p e =
+      let k = forbidden-kind w p e in
+      rw (ne-eqb (kindOf w) 4 (omega (arith, k .0)), eq-eqb (kindOf w) 11 (k .0))
 
   pub closes-none : (eqb (kindOf w) 4 ≡ false) × (eqb (kindOf w) 11 ≡ false) → closesEntry w ≡ false
   unfolding closesEntry

@@ -2,20 +2,21 @@
 use Prim.Native.Nat.{ℕ, suc, _+_, _*_, _≤_}
 use native.Mathlib.Omega.{arith}
 use mathlib.Core.Path.{_≡_, refl, sym, _∙_}
-use mathlib.Core.Logic.{_⊎_, ⊎-elim}
+use mathlib.Core.Logic.{_↔_, ⊎-elim}
 use mathlib.Core.Bool.{Bool, true, false, _&&_, _||_, cond}
-use mathlib.Core.List.{List, [], _∷_}
+use mathlib.Core.List.{List, [], _∷_, _++_}
 use lib.ListN.{length}
 use lib.Dec.{eqb, leb}
-use borrow.Author.Tests.{eqb-true, eqb-false, ne-eqb, le-leb, lt-leb, leb-false}
-use Rattle.wcsp.specs.Entry.{Entry, matches, cost}
-use Rattle.words.specs.Layout.{kindOf, payloadOf}
+use borrow.Author.Tests.{eqb-true, eqb-false, ne-eqb, le-leb, lt-leb, leb-true, leb-false}
+use Rattle.wcsp.specs.Clause.{InRange}
+use Rattle.wcsp.specs.Entry.{Binding, Entry, matches, cost}
+use Rattle.words.specs.Layout.{kindOf, payloadOf, variableIn, valueIn}
 use Rattle.fields.specs.Limits.{maxCost, greatestAllowed, forbiddenCost}
-use Rattle.fields.specs.Entries.{Each, nilEach, consEach, Entries, costOf}
-use Rattle.fields.specs.Forbidden.{hasForbidden, ForbiddenIsDear, BoundForbids, ForbiddenByKind}
+use Rattle.fields.specs.Entries.{Each, nilEach, consEach, EntryCost, Entries, closesEntry, costOf, entriesFrom}
+use Rattle.fields.specs.Forbidden.{hasForbidden, hasForbiddenFrom, ForbiddenIsDear, BoundForbids}
 
 abbrev Priced : List Entry → Type 0
-Priced es = Each (λ e. (e .cost ≤ maxCost) ⊎ (e .cost ≡ forbiddenCost)) es
+Priced es = Each (λ e. EntryCost (e .cost)) es
 
 -- what the cost tells, as long as the entries are few
 abbrev Told : Bool → ℕ → ℕ → Type 0
@@ -26,7 +27,7 @@ unfolding hasForbidden cost
 told [] p nilEach = omega arith
 told (e ∷ es) p (consEach h r) = go (eqb (e .cost) forbiddenCost) (matches p (e .bindings)) (hasForbidden es p) refl h (told es p r)
   where
-    go : (f m b : Bool) → eqb (e .cost) forbiddenCost ≡ f → (e .cost ≤ maxCost) ⊎ (e .cost ≡ forbiddenCost) → Told b (cost es p) (length es)
+    go : (f m b : Bool) → eqb (e .cost) forbiddenCost ≡ f → EntryCost (e .cost) → Told b (cost es p) (length es)
         → Told ((f && m) || b) (cond m (e .cost) 0 + cost es p) (suc (length es))
     go true true b q l t = let s = eqb-true (e .cost) forbiddenCost q in omega arith
     go true false true q l t = omega arith
@@ -50,15 +51,51 @@ pub allowed-costs : {ds : List ℕ} {before : ℕ} {es : List Entry} → Entries
     → cost es p ≤ greatestAllowed
 allowed-costs {ds} {before} {es} a p f = omega (arith, leb-false forbiddenCost (cost es p) (forbiddenIsDear ds before es a p ∙ f))
 
-pub boundForbids : BoundForbids
-boundForbids ds before es a b h below p r = sym (forbiddenIsDear ds before es a p) ∙ le-leb forbiddenCost (cost es p) (omega (arith, below p r))
+-- a bound that none of the assignments with a property undercuts
+bound-forbids : {ds : List ℕ} {before : ℕ} {es : List Entry} → Entries ds before es → (P : List ℕ → Type 0) (b : ℕ)
+    → ((p : List ℕ) → P p → b ≤ cost es p) → forbiddenCost ≤ b → (p : List ℕ) → P p → hasForbidden es p ≡ true
+bound-forbids {ds} {before} {es} a P b below h p r = sym (forbiddenIsDear ds before es a p) ∙ le-leb forbiddenCost (cost es p) (omega (arith, below p r))
 
-pub forbiddenByKind : ForbiddenByKind
+pub boundForbids : BoundForbids
+boundForbids ds before es a b h below = bound-forbids a (InRange ds) b below h
+
+-- and that one of them, q, has: it is the least of their costs
+pub least-forbids : {ds : List ℕ} {before : ℕ} {es : List Entry} → Entries ds before es → (P : List ℕ → Type 0) (m : ℕ) (q : List ℕ)
+    → P q → cost es q ≡ m → ((p : List ℕ) → P p → m ≤ cost es p) → (forbiddenCost ≤ m) ↔ ((p : List ℕ) → P p → hasForbidden es p ≡ true)
+least-forbids {ds} {before} {es} a P m q r e below = (
+  bound-forbids a P m below,
+  λ all. omega (arith, e, leb-true forbiddenCost (cost es q) (forbiddenIsDear ds before es a q ∙ all q r)),
+)
+
+-- a cost word's cost is within the limit
+abbrev pub CostWithin : ℕ → Type 0
+CostWithin w = kindOf w ≡ 4 → payloadOf w ≤ maxCost
+
+-- then a word costs as much as a forbidden entry exactly if it is of kind 11
+forbidden-by-kind : (w : ℕ) → CostWithin w → eqb (costOf w) forbiddenCost ≡ eqb (kindOf w) 11
 unfolding costOf
-forbiddenByKind w limit = go (eqb (kindOf w) 4) (eqb (kindOf w) 11) refl refl
+forbidden-by-kind w limit = go (eqb (kindOf w) 4) (eqb (kindOf w) 11) refl refl
   where
     go : (x y : Bool) → eqb (kindOf w) 4 ≡ x → eqb (kindOf w) 11 ≡ y → eqb (cond x (payloadOf w) (cond y forbiddenCost 0)) forbiddenCost ≡ y
     go true true e f = absurd (omega (arith, eqb-true (kindOf w) 4 e, eqb-true (kindOf w) 11 f))
     go true false e f = ne-eqb (payloadOf w) forbiddenCost (λ (z : payloadOf w ≡ forbiddenCost). omega (arith, limit (eqb-true (kindOf w) 4 e)))
     go false true e f = refl
     go false false e f = refl
+
+-- so by words as by the entries that they mean
+pub forbidden-from : (bs : List Binding) (ws p : List ℕ) → Each CostWithin ws
+    → hasForbidden (entriesFrom bs ws) p ≡ hasForbiddenFrom bs ws p
+unfolding entriesFrom hasForbidden hasForbiddenFrom
+forbidden-from bs [] p nilEach = refl
+forbidden-from bs (w ∷ ws) p (consEach h r) = go (eqb (kindOf w) 3) (closesEntry w) (λ cs. forbidden-from cs ws p r)
+  where
+    b : Binding
+    b = record { variable = variableIn w; value = valueIn w }
+
+    go : (x y : Bool) → ((cs : List Binding) → hasForbidden (entriesFrom cs ws) p ≡ hasForbiddenFrom cs ws p)
+        → hasForbidden (cond x (entriesFrom (bs ++ (b ∷ [])) ws) (cond y (record { bindings = bs; cost = costOf w } ∷ entriesFrom [] ws) (entriesFrom bs ws))) p
+        ≡ cond x (hasForbiddenFrom (bs ++ (b ∷ [])) ws p)
+        (cond y ((eqb (kindOf w) 11 && matches p bs) || hasForbiddenFrom [] ws p) (hasForbiddenFrom bs ws p))
+    go true y ih = ih (bs ++ (b ∷ []))
+    go false true ih = rw (forbidden-by-kind w h, ih [])
+    go false false ih = ih bs

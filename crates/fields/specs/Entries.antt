@@ -44,11 +44,15 @@ pub record FieldSizes (ds : List ℕ) : Type 0 where
   pub each : EachSize ds
   pub positive : AllPositive ds
 
+-- what an entry may cost: at most the limit, or what a forbidden one does
+abbrev pub EntryCost : ℕ → Type 0
+EntryCost c = (c ≤ maxCost) ⊎ (c ≡ forbiddenCost)
+
 -- entries over these sizes, at most so many with those before, and each costs at most the limit or is forbidden
 pub record Entries (ds : List ℕ) (before : ℕ) (es : List Entry) : Type 0 where
   pub wellFormed : WellFormed ds es
   pub number : before + length es ≤ maxEntries
-  pub costs : Each (λ e. (e .cost ≤ maxCost) ⊎ (e .cost ≡ forbiddenCost)) es
+  pub costs : Each (λ e. EntryCost (e .cost)) es
 
 -- no assignment of them costs more than the greatest cost
 abbrev pub CostsBounded : Type 0

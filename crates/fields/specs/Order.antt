@@ -20,7 +20,7 @@ unfoldable pub firstOf : List Test → ℕ
 firstOf [] = 0
 firstOf (t ∷ ts) = cond (t .applies) (t .number) (firstOf ts)
 
--- the numbers of "From the input", 1 to 8, and of "From the state", 9 to 13
+-- the numbers of "From the input", 1 to 8, and of "From the state", 9 to 13, with 14 and 15, which document 02 places among these
 abbrev pub lastInput : ℕ
 lastInput = 8
 
@@ -28,7 +28,7 @@ abbrev pub firstState : ℕ
 firstState = 9
 
 abbrev pub lastState : ℕ
-lastState = 13
+lastState = 15
 
 abbrev pub fromInput : ℕ → Bool
 fromInput k = between 1 k lastInput

@@ -118,7 +118,7 @@ module _ (f next : Figures) (column cost : ℕ) where
     unfolding counted
     counted-behind h = rw (← l, h) e
 
--- a sheet adds no more than the greatest cost
+-- a sheet adds no more than the greatest cost without a forbidden combination
 sum-within : (n s column cost : ℕ) → s ≤ n * greatestAllowed → (column ≡ plannedColumn → cost ≤ greatestAllowed)
     → cond (eqb column plannedColumn) (s + cost) s ≤ (n + 1) * greatestAllowed
 sum-within n s column cost h l = go (eqb column plannedColumn) refl

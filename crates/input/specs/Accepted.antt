@@ -1,10 +1,11 @@
 -- What an accepted instance is known to be.
-use Prim.Native.Nat.{ℕ}
+use Prim.Native.Nat.{ℕ, _+_}
 use mathlib.Core.Path.{_≡_}
-use mathlib.Core.List.{List}
-use lib.ListN.{length, getD}
+use mathlib.Core.List.{List, []}
+use lib.ListN.{length, getD, drop}
 use Rattle.words.specs.Layout.{payloadOf}
 use Rattle.fields.specs.Entries.{FieldSizes, Entries}
+use Rattle.fields.specs.Forbidden.{hasForbidden, hasForbiddenFrom}
 use Rattle.input.specs.Instance.{instanceFault, sizesOf, entriesOf}
 
 pub record Accepted (ws : List ℕ) : Type 0 where
@@ -15,3 +16,9 @@ pub record Accepted (ws : List ℕ) : Type 0 where
 -- an instance without a fault, which is what accepted means, is within every limit
 abbrev pub FaultlessIsAccepted : Type 0
 FaultlessIsAccepted = (ws : List ℕ) → instanceFault ws ≡ 0 → Accepted ws
+
+-- in such an instance the entries of a forbidden entry's cost are those that a word of kind 11 closes, so an assignment has a forbidden combination
+-- by the entries exactly if it has one by the words
+abbrev pub ForbiddenByWords : Type 0
+ForbiddenByWords = (ws p : List ℕ) → instanceFault ws ≡ 0
+    → hasForbidden (entriesOf ws) p ≡ hasForbiddenFrom [] (drop (1 + payloadOf (getD ws 0 0)) ws) p

@@ -15,8 +15,7 @@ use Rattle.fields.specs.Limits.{maxVariables, maxValues, maxEntries, maxCost}
 use Rattle.fields.specs.Front.{frontWords}
 use Rattle.fields.specs.Entries.{EachSize, nilEach, consEach, FieldSizes, entriesFrom}
 use Rattle.fields.proofs.Fronts.{head-is, size-is}
-use Rattle.fields.proofs.Closing.{closes-cost}
-use Rattle.fields.proofs.Costs.{cost-some}
+use Rattle.fields.proofs.Closing.{closes-cost, cost-some}
 use Rattle.entries.specs.Entries.{scanBinding, scanClosing, scanCost, scanWord, resume, entriesFault}
 use Rattle.input.specs.Instance.{stationsFault, instanceFault, sizesOf, entriesOf}
 use Rattle.sheet.specs.Sheet.{legCount, positionsOf, sheetSizes, entryWordsOf}

@@ -1,4 +1,4 @@
--- Valid tables, exactly as document 01 says; every other slice gets 9.
+-- Valid tables, exactly as document 01 says, with rows as document 02's wish 4 has them; every other slice gets 9.
 use Prim.Native.Nat.{ℕ, zero, suc, _+_, _*_}
 use mathlib.Core.Bool.{Bool, true, false, not, _&&_, cond}
 use mathlib.Core.List.{List, [], _∷_}

@@ -218,7 +218,7 @@ fn read_fulls(t: &[u32], n: usize) -> Fulls
     Fulls::Signs(fulls)
 }
 
-// The test of a whole slice: valid exactly as document 01 says.
+// The test of a whole slice: valid exactly as documents 01 and 02 say.
 pub fn check(t: &[u32]) -> Checked
     ensures returned { λ r. ⌜ r ≡ checkTable (now (t .entry)) ⌝ }
 {

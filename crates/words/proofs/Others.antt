@@ -57,8 +57,8 @@ abbrev pub butSize : List ℕ
 butSize = 0 ∷ 2 ∷ 3 ∷ 4 ∷ 5 ∷ 6 ∷ 7 ∷ 8 ∷ 9 ∷ 10 ∷ 11 ∷ 12 ∷ []
 
 -- neither a cost nor a forbidden word
-abbrev pub butCost : List ℕ
-butCost = 0 ∷ 1 ∷ 2 ∷ 4 ∷ 5 ∷ 6 ∷ 7 ∷ 8 ∷ 9 ∷ 11 ∷ 12 ∷ []
+abbrev pub butClosing : List ℕ
+butClosing = 0 ∷ 1 ∷ 2 ∷ 4 ∷ 5 ∷ 6 ∷ 7 ∷ 8 ∷ 9 ∷ 11 ∷ 12 ∷ []
 
 -- neither a binding nor a word that closes an entry
 abbrev pub butEntry : List ℕ
@@ -74,8 +74,8 @@ module _ (w : ℕ) (read : Word) (e : read ≡ wordOf w) where
   pub no-size : OneOf butSize (placeOf read) → eqb (kindOf w) 2 ≡ false
   no-size o = not-kind butSize 2 w read e o (omega arith) (omega arith) tt
 
-  pub no-cost : OneOf butCost (placeOf read) → (eqb (kindOf w) 4 ≡ false) × (eqb (kindOf w) 11 ≡ false)
-  no-cost o = (not-kind butCost 4 w read e o (omega arith) (omega arith) tt, not-kind butCost 11 w read e o (omega arith) (omega arith) tt)
+  pub no-closing : OneOf butClosing (placeOf read) → (eqb (kindOf w) 4 ≡ false) × (eqb (kindOf w) 11 ≡ false)
+  no-closing o = (not-kind butClosing 4 w read e o (omega arith) (omega arith) tt, not-kind butClosing 11 w read e o (omega arith) (omega arith) tt)
 
   pub no-entry : OneOf butEntry (placeOf read) → (eqb (kindOf w) 3 ≡ false) × (eqb (kindOf w) 4 ≡ false) × (eqb (kindOf w) 11 ≡ false)
   no-entry o = (

@@ -1,4 +1,4 @@
--- The words of documents 01 and 02: how each one is made. A word's kind is its top four bits, its payload the low 28; unnamed bits are zero.
+-- The words of document 01 and of wish 4 of document 02: how each one is made. A word's kind is its top four bits, its payload the low 28; unnamed bits are zero.
 use Prim.Native.Nat.{ℕ, _+_, _-_, _*_, _/_, _%_}
 use mathlib.Core.Bool.{cond}
 use mathlib.Core.List.{List, [], _∷_}

@@ -1,3 +1,3 @@
--- The words of documents 01 and 02: their layout and their meaning.
+-- The words of document 01 and of wish 4 of document 02: their layout and their meaning.
 pub mod Layout
 pub mod Meaning

@@ -1,4 +1,4 @@
-// The words of documents 01 and 02: what a word says by its kind, the words that the planner writes, and three signs in one word.
+// The words of document 01 and of wish 4 of document 02: what a word says by its kind, the words that the planner writes, and three signs in one word.
 ghost use mathlib.Core.Path.{_≡_};
 ghost use Prim.Native.Nat.{_+_, _*_, _<_, _≤_, _/_, _%_};
 ghost use Rattle.words.specs.Layout.{kindOf, payloadOf, headWord, sizeWord, bindingWord, costWord, packed, signsWord, weightWord, stepWord, coordinatePayload, eastingWord, northingWord, countWord, highWord};

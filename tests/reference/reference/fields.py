@@ -16,6 +16,8 @@ HEAVY_ROWS = [(SHARE + 4_095, SHARE), (SHARE + 4_096, SHARE), (1 << 52, 1 << 52)
               (MAX_WEIGHT, MAX_WEIGHT)]
 # How many forbidden entries and what ordinary cost together make 1 << 28, and 1 << 32.
 ROUND_COSTS = [(1, 4_095), (16, 65_520)]
+# The word that forbids, good and with each unnamed bit, and a weight's high word.
+FORBIDDEN_WORDS = [words.forbidden(), *(words.forbidden(1 << bit) for bit in range(28)), words.high_weight(0), words.high_weight(1)]
 
 
 def instance(sizes, entries):

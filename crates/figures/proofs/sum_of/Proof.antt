@@ -1,4 +1,4 @@
--- `sum_of` adds a count each turn: the sum and the counts left add up to all of them, and each of at most ten counts has 32 bits.
+-- `sum_of` adds a count each turn: the sum and the counts left add up to all of them, and each of at most eleven counts has 32 bits.
 use borrow.Author.Needs.{needs}
 use Prim.Native.Nat.{_+_, _*_, _-_, _≤_}
 use native.Mathlib.Omega.{arith}
