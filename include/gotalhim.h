@@ -73,7 +73,7 @@ enum gotalhim_number {
     GOTALHIM_PAIR_LEFT = 13,        /* plan or completion wanted while a pair is left */
     GOTALHIM_BAD_FIXED = 14,        /* k above n, not exactly n - k fixed values, or one out of range */
     GOTALHIM_FORBIDDEN = 15         /* plan wanted, but the row without literals weighs GOTALHIM_FORBIDDEN_WEIGHT or more;
-                                       in a table from an accepted instance, every plan has a forbidden combination */
+                                       then, in a table from an accepted instance, every plan has a forbidden combination */
 };
 
 /* How a run ended, the first field of its answer. */

@@ -74,7 +74,7 @@ def entry_bounds(both):
 
 
 def forbidden_words(both):
-    """Words that forbid, good and faulty ones, in the place of every word."""
+    """Words that forbid, good and faulty ones, and high words in the place of every word."""
     entries = [fields.forbidden((0, 0), (1, 1)), ([(1, 0)], 3)]
     instance, sheet = fields.instance([1, 2], entries), fields.sheet([[HERE], [HERE, HERE]], entries)
     for word in fields.FORBIDDEN_WORDS:

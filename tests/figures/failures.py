@@ -17,6 +17,7 @@ PROGRAMS = {
     "killed": ("kill -9 $$", "season: the program ended with status 137\n"),
     "complaining": ("echo 'season: the season cannot be read' >&2", UNREADABLE),
     "cut": (f"printf '{LINE}'", f"season: the program's answer is unknown: {LINE}\n"),
+    "talking": (f"echo {LINE}; head -c 200000 /dev/zero", "season: the program ended with status 141\n"),
     "short": ("echo 1 2 3", "season: the program's answer is unknown: 1 2 3\n"),
     "astray": ("echo PLAN", "season: the program's answer is unknown: PLAN\n"),
 }

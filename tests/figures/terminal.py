@@ -97,9 +97,12 @@ def check_nothing(checks, folder):
 
 
 def check_ended(checks, folder):
-    """A command that is interrupted or ended takes its program with it, wherever it is told to end."""
+    """A command that is interrupted or ended takes its program with it, wherever it is told to end, and leaves no file behind."""
     for number in (signal.SIGINT, signal.SIGTERM, signal.SIGHUP):
         command, file, pipe, environment = made_command(folder / number.name, ENDLESS)
+        room = folder / f"room-{number.name}"
+        room.mkdir()
+        environment["TMPDIR"] = str(room)
         # The other end is held until the last of them has ended.
         ours, theirs = os.pipe()
         running = subprocess.Popen([command, file], env=environment, pass_fds=[theirs], preexec_fn=lambda: reset(number))
@@ -109,6 +112,7 @@ def check_ended(checks, folder):
         ready, _, _ = select.select([ours], [], [], PATIENCE)
         checks.same(f"whether all have ended after {number.name}", bool(ready), True)
         checks.same(f"the command after {number.name}", running.wait(PATIENCE) in (-number, 128 + number), True)
+        checks.same(f"files left after {number.name}", list(room.iterdir()), [])
         os.close(ours)
 
 

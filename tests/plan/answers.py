@@ -8,13 +8,16 @@ from building import repository
 from commands import planned
 from reference import words
 from reference.fields import as_bytes
-from reference.limits import FORBIDDEN_WEIGHT
+from reference.limits import FORBIDDEN_WEIGHT, MAX_WEIGHT
 from sheets import EXAMPLE, all_sheets
 from stored import stored
 
 ALL_FORBIDDEN = "every plan has a forbidden combination of spots"
 # How the names of sheets begin that are not planned and have an empty row as it is.
 NOT_PLANNED = ("paused-", "full-in-the-run-")
+# What no program prints, the last without its line end.
+NO_ANSWERS = ["PAUSED 9 BOUND\\n", "FULL 9 BOUND x\\n", "FULL\\n", "PAUSED x BOUND 5\\n", "PAUSED 9 LIMIT 5\\n", "REFUSED\\n", "PLANNED\\n",
+              "FULL 9 BOUND 99999999999999999999\\n", "FULL 9 BOUND 5"]
 STATUS = {"PLAN": 0, "REFUSED": 2, "PAUSED": 3, "FULL": 3}
 PAUSED = "plan: standard input: not planned within {} steps, the most that the program makes; {}\n"
 FULL = "plan: standard input: not planned: after {} steps the next one has no room in the program's table; {}\n"
@@ -58,17 +61,18 @@ def check_bounds(checks, sheets, expected):
 
 def check_program(checks, folder, text, due):
     """The status and what is said last, with a program that prints this text in place of the true one."""
-    made, path = repository(folder, f"#!/bin/sh\necho '{text}'\n")
+    made, path = repository(folder, f"#!/bin/sh\nprintf '{text}'\n")
     status, printed, told = planned(["-"], as_bytes(EXAMPLE), command=made / "plan", path=path)
-    checks.same(f"what is said of {text}", (status, printed, told.splitlines(keepends=True)[-1]), (due[0], f"{text}\n".encode(), due[1]))
+    checks.same(f"what is said of {text}", (status, printed, told.splitlines(keepends=True)[-1]),
+                (due[0], text.replace("\\n", "\n").encode(), due[1]))
 
 
 def check_edge(checks, folder):
-    """The highest bound that is told and the lowest that is not; what is no bound tells nothing."""
-    for bound in (FORBIDDEN_WEIGHT - 1, FORBIDDEN_WEIGHT):
-        check_program(checks, folder / str(bound), f"PAUSED 9 BOUND {bound}", (STATUS["PAUSED"], PAUSED.format(9, said_by(bound))))
-    for text in ("PAUSED 9 BOUND", "FULL 9 BOUND x", "FULL"):
-        check_program(checks, folder / text.replace(" ", "-"), text, (1, "plan: the program's answer is unknown\n"))
+    """The highest bound that is told and the lowest that is not, and the greatest of all; what is no answer tells nothing."""
+    for bound in (FORBIDDEN_WEIGHT - 1, FORBIDDEN_WEIGHT, MAX_WEIGHT):
+        check_program(checks, folder / str(bound), f"PAUSED 9 BOUND {bound}\\n", (STATUS["PAUSED"], PAUSED.format(9, said_by(bound))))
+    for at, text in enumerate(NO_ANSWERS):
+        check_program(checks, folder / str(at), text, (1, "plan: the program's answer is unknown\n"))
 
 
 def run(checks):

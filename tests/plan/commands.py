@@ -10,9 +10,9 @@ SEASON = ROOT / "season"
 EXAMPLES = ROOT / "examples"
 
 
-def planned(arguments, source=b"", command=PLAN, path=None):
-    """Exit status, standard output and standard error; the search path for commands may be another one."""
-    environment = dict(os.environ, PATH=path) if path else None
+def planned(arguments, source=b"", command=PLAN, path=None, **variables):
+    """Exit status, standard output and standard error; the search path for commands may be another one, and so may variables."""
+    environment = dict(os.environ, **variables, **({"PATH": path} if path else {}))
     done = subprocess.run([command, *arguments], input=source, capture_output=True, cwd=ROOT, env=environment)
     return done.returncode, done.stdout, done.stderr.decode()
 
@@ -32,6 +32,8 @@ def check_arguments(checks, name, answered, to_full, example, unwritten, parts):
                             (["examples"], f"{name}: examples is a directory\n")]:
         checks.same(f"{name} {' '.join(arguments)}", answered(arguments), (1, b"", said))
     checks.same(f"{name} to a full device", to_full([example]), (1, f"{name}: {unwritten}"))
+    checks.same(f"{name} with no room for temporary files", answered([example], TMPDIR=str(ROOT / "nowhere")),
+                (1, b"", f"{name}: no temporary file can be made\n"))
     status, printed, said = answered(["--help"])
     checks.same(f"{name} --help", (status, said), (0, ""))
     for part in parts:

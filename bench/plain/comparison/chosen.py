@@ -22,7 +22,7 @@ def entry_calls():
 
 
 def forbidden_calls():
-    """Words that forbid, good and faulty ones, in the place of every word of a sheet and an instance."""
+    """Words that forbid, good and faulty ones, and high words in the place of every word of a sheet and an instance."""
     sheet = fields.sheet([[(0, 0)], [(0, 0), (300, 400)]], [fields.forbidden((0, 0), (1, 1)), ([], 3)])
     instance = fields.instance([1, 2], [fields.forbidden((0, 0), (1, 1)), ([], 3)])
     made = [calls.make(sheet[:at] + [word] + sheet[at + 1:], [0] * 40) for at in range(len(sheet)) for word in fields.FORBIDDEN_WORDS]

@@ -117,7 +117,7 @@ module _ {len : ℕ} {ds : List ℕ} {es : List Entry} (a : Takes len ds es) whe
         (b .inRange, b .agrees) (b .attained) (λ p q. b .least p (q .0) (q .1)) in
         (λ w p i d. f .0 w p (i, d), λ (all : AllForbiddenFrom ds es k fixed). f .1 (λ p q. all p (q .0) (q .1)))
 
-    -- the comparisons of the statement from those above
+    -- by what the comparisons say and not by how they are spelt, so that another comparison in the statement fails at the weight where it is wrong
     pub forbidden-rows : nextPair ds rs ≡ none → ForbidsExactly ds es t′
     forbidden-rows e =
         record {

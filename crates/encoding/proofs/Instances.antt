@@ -17,7 +17,7 @@ use Rattle.wcsp.proofs.WideningTables.{wideEncoded}
 use Rattle.words.specs.Layout.{kindOf, variableIn, valueIn}
 use Rattle.fields.specs.Limits.{forbiddenCost}
 use Rattle.fields.specs.Front.{goodSizes}
-use Rattle.fields.specs.Entries.{Each, EachSize, EntryCost, nilEach, consEach, entriesFrom}
+use Rattle.fields.specs.Entries.{EachSize, Priced, nilEach, consEach, entriesFrom}
 use Rattle.fields.specs.Padding.{padded, lacking}
 use Rattle.fields.proofs.Fronts.{good-long}
 use Rattle.fields.proofs.Sizes.{each-positive}
@@ -90,7 +90,7 @@ proper-at ds l s v a h =
 
 -- ---- costs
 
-total-bounded : (es : List Entry) → Each (λ e. EntryCost (e .cost)) es → total es ≤ forbiddenCost * length es
+total-bounded : (es : List Entry) → Priced es → total es ≤ forbiddenCost * length es
 unfolding total
 total-bounded [] nilEach = omega arith
 total-bounded (e ∷ es) (consEach h r) = omega (arith, total-bounded es r, priced-bounded (e .cost) h)

@@ -7,12 +7,12 @@ use mathlib.Core.List.{List, [], _∷_}
 use lib.ListN.{length}
 use Rattle.wcsp.specs.Entry.{Entry, matches, cost}
 use Rattle.fields.specs.Limits.{forbiddenCost, greatestCost}
-use Rattle.fields.specs.Entries.{Each, nilEach, consEach, EntryCost, Entries, CostsBounded}
+use Rattle.fields.specs.Entries.{nilEach, consEach, EntryCost, Priced, Entries, CostsBounded}
 
 pub priced-bounded : (c : ℕ) → EntryCost c → c ≤ forbiddenCost
 priced-bounded c = ⊎-elim (λ h. omega arith) (λ h. omega arith)
 
-cost-bounded : (es : List Entry) (p : List ℕ) → Each (λ e. EntryCost (e .cost)) es → cost es p ≤ forbiddenCost * length es
+cost-bounded : (es : List Entry) (p : List ℕ) → Priced es → cost es p ≤ forbiddenCost * length es
 unfolding cost
 cost-bounded [] p nilEach = omega arith
 cost-bounded (e ∷ es) p (consEach h r) = go (matches p (e .bindings)) (cost-bounded es p r) (priced-bounded (e .cost) h)

@@ -12,11 +12,8 @@ use Rattle.wcsp.specs.Clause.{InRange}
 use Rattle.wcsp.specs.Entry.{Binding, Entry, matches, cost}
 use Rattle.words.specs.Layout.{kindOf, payloadOf, variableIn, valueIn}
 use Rattle.fields.specs.Limits.{maxCost, greatestAllowed, forbiddenCost}
-use Rattle.fields.specs.Entries.{Each, nilEach, consEach, EntryCost, Entries, closesEntry, costOf, entriesFrom}
-use Rattle.fields.specs.Forbidden.{hasForbidden, hasForbiddenFrom, ForbiddenIsDear, BoundForbids}
-
-abbrev Priced : List Entry → Type 0
-Priced es = Each (λ e. EntryCost (e .cost)) es
+use Rattle.fields.specs.Entries.{Each, nilEach, consEach, EntryCost, Priced, Entries, closesEntry, costOf, entriesFrom}
+use Rattle.fields.specs.Forbidden.{hasForbidden, hasForbiddenFrom, ForbiddenIsDear, BoundForbids, OverDrain}
 
 -- what the cost tells, as long as the entries are few
 abbrev Told : Bool → ℕ → ℕ → Type 0
@@ -71,31 +68,30 @@ least-forbids {ds} {before} {es} a P m q r e below = (
 abbrev pub CostWithin : ℕ → Type 0
 CostWithin w = kindOf w ≡ 4 → payloadOf w ≤ maxCost
 
--- then a word costs as much as a forbidden entry exactly if it is of kind 11
-forbidden-by-kind : (w : ℕ) → CostWithin w → eqb (costOf w) forbiddenCost ≡ eqb (kindOf w) 11
-unfolding costOf
-forbidden-by-kind w limit = go (eqb (kindOf w) 4) (eqb (kindOf w) 11) refl refl
-  where
-    go : (x y : Bool) → eqb (kindOf w) 4 ≡ x → eqb (kindOf w) 11 ≡ y → eqb (cond x (payloadOf w) (cond y forbiddenCost 0)) forbiddenCost ≡ y
-    go true true e f = absurd (omega (arith, eqb-true (kindOf w) 4 e, eqb-true (kindOf w) 11 f))
-    go true false e f = ne-eqb (payloadOf w) forbiddenCost (λ (z : payloadOf w ≡ forbiddenCost). omega (arith, limit (eqb-true (kindOf w) 4 e)))
-    go false true e f = refl
-    go false false e f = refl
-
 -- so by words as by the entries that they mean
-pub forbidden-from : (bs : List Binding) (ws p : List ℕ) → Each CostWithin ws
-    → hasForbidden (entriesFrom bs ws) p ≡ hasForbiddenFrom bs ws p
-unfolding entriesFrom hasForbidden hasForbiddenFrom
+pub forbidden-from : (bs : List Binding) (ws p : List ℕ) → Each CostWithin ws → hasForbidden (entriesFrom bs ws) p ≡ hasForbiddenFrom bs ws p
+unfolding entriesFrom closesEntry costOf hasForbidden hasForbiddenFrom
 forbidden-from bs [] p nilEach = refl
-forbidden-from bs (w ∷ ws) p (consEach h r) = go (eqb (kindOf w) 3) (closesEntry w) (λ cs. forbidden-from cs ws p r)
+forbidden-from bs (w ∷ ws) p (consEach h r) =
+    go (eqb (kindOf w) 3) (eqb (kindOf w) 4) (eqb (kindOf w) 11) (λ e. h (eqb-true (kindOf w) 4 e)) (λ cs. forbidden-from cs ws p r)
   where
     b : Binding
     b = record { variable = variableIn w; value = valueIn w }
 
-    go : (x y : Bool) → ((cs : List Binding) → hasForbidden (entriesFrom cs ws) p ≡ hasForbiddenFrom cs ws p)
-        → hasForbidden (cond x (entriesFrom (bs ++ (b ∷ [])) ws) (cond y (record { bindings = bs; cost = costOf w } ∷ entriesFrom [] ws) (entriesFrom bs ws))) p
+    go : (x y z : Bool) → (y ≡ true → payloadOf w ≤ maxCost)
+        → ((cs : List Binding) → hasForbidden (entriesFrom cs ws) p ≡ hasForbiddenFrom cs ws p)
+        → hasForbidden
+        (cond x (entriesFrom (bs ++ (b ∷ [])) ws)
+        (cond (y || z) (record { bindings = bs; cost = cond y (payloadOf w) (cond z forbiddenCost 0) } ∷ entriesFrom [] ws) (entriesFrom bs ws))) p
         ≡ cond x (hasForbiddenFrom (bs ++ (b ∷ [])) ws p)
-        (cond y ((eqb (kindOf w) 11 && matches p bs) || hasForbiddenFrom [] ws p) (hasForbiddenFrom bs ws p))
-    go true y ih = ih (bs ++ (b ∷ []))
-    go false true ih = rw (forbidden-by-kind w h, ih [])
-    go false false ih = ih bs
+        (cond y (hasForbiddenFrom [] ws p) (cond z (matches p bs || hasForbiddenFrom [] ws p) (hasForbiddenFrom bs ws p)))
+    go true y z l ih = ih (bs ++ (b ∷ []))
+    go false true z l ih =
+        let n = l refl in
+        rw (ne-eqb (payloadOf w) forbiddenCost (λ (e : payloadOf w ≡ forbiddenCost). omega arith)) (ih [])
+    go false false true l ih = rw (ih [])
+    go false false false l ih = ih bs
+
+pub overDrain : OverDrain
+unfolding hasForbidden matches cost entriesFrom closesEntry costOf
+overDrain = record { there = refl; beside = refl; cost = refl }

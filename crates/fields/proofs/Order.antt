@@ -6,15 +6,11 @@ use mathlib.Core.Bool.{Bool, true, false, _&&_, cond}
 use mathlib.Core.List.{List, [], _∷_, _++_}
 use lib.Dec.{eqb, leb}
 use borrow.Author.Tests.{leb-true}
-use Rattle.fields.specs.Order.{Test, firstOf, lastInput, firstState, lastState, faultTests, InputBelowState}
+use Rattle.fields.specs.Order.{Test, firstOf, lastInput, firstState, faultTests, InputBelowState}
 
 pub inputBelowState : InputBelowState
-inputBelowState j k i s = omega (arith, leb-true j lastInput (second (leb 1 j) _ i), leb-true firstState k (first _ (leb k lastState) s))
+inputBelowState j k i s = omega (arith, leb-true j lastInput (second (leb 1 j) _ i), leb-true firstState k s)
   where
-    first : (a b : Bool) → (a && b) ≡ true → a ≡ true
-    first true b e = refl
-    first false b e = e
-
     second : (a b : Bool) → (a && b) ≡ true → b ≡ true
     second true b e = e
     second false b e = cc

@@ -48,11 +48,14 @@ pub record FieldSizes (ds : List ℕ) : Type 0 where
 abbrev pub EntryCost : ℕ → Type 0
 EntryCost c = (c ≤ maxCost) ⊎ (c ≡ forbiddenCost)
 
+abbrev pub Priced : List Entry → Type 0
+Priced es = Each (λ e. EntryCost (e .cost)) es
+
 -- entries over these sizes, at most so many with those before, and each costs at most the limit or is forbidden
 pub record Entries (ds : List ℕ) (before : ℕ) (es : List Entry) : Type 0 where
   pub wellFormed : WellFormed ds es
   pub number : before + length es ≤ maxEntries
-  pub costs : Each (λ e. EntryCost (e .cost)) es
+  pub costs : Priced es
 
 -- no assignment of them costs more than the greatest cost
 abbrev pub CostsBounded : Type 0

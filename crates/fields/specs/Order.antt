@@ -3,7 +3,7 @@ use Prim.Native.Nat.{ℕ, _<_}
 use mathlib.Core.Path.{_≡_}
 use mathlib.Core.Bool.{Bool, true, _&&_, cond}
 use mathlib.Core.List.{List, [], _∷_}
-use lib.Dec.{eqb, ltb}
+use lib.Dec.{eqb, leb, ltb}
 use Rattle.fields.specs.Limits.{between}
 
 -- a test of a call: the number that it refuses with, and whether it applies
@@ -20,24 +20,21 @@ unfoldable pub firstOf : List Test → ℕ
 firstOf [] = 0
 firstOf (t ∷ ts) = cond (t .applies) (t .number) (firstOf ts)
 
--- the numbers of "From the input", 1 to 8, and of "From the state", 9 to 13, with 14 and 15, which document 02 places among these
+-- the numbers of "From the input", 1 to 8; those of "From the state" and of document 02 are from 9 on
 abbrev pub lastInput : ℕ
 lastInput = 8
 
 abbrev pub firstState : ℕ
 firstState = 9
 
-abbrev pub lastState : ℕ
-lastState = 15
-
 abbrev pub fromInput : ℕ → Bool
 fromInput k = between 1 k lastInput
 
 abbrev pub fromState : ℕ → Bool
-fromState k = between firstState k lastState
+fromState k = leb firstState k
 
 -- the order of tests: their numbers rise. This is both halves of the sentence, since every number of the input lies below
--- every number of the state.
+-- every other.
 unfoldable pub inOrder : List Test → Bool
 inOrder [] = true
 inOrder (t ∷ []) = true
