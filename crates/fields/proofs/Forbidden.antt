@@ -94,4 +94,4 @@ forbidden-from bs (w ∷ ws) p (consEach h r) =
 
 pub overDrain : OverDrain
 unfolding hasForbidden matches cost entriesFrom closesEntry costOf
-overDrain = record { there = refl; beside = refl; cost = refl }
+overDrain = record { there = refl; beside = refl; dear = refl }

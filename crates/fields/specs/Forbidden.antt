@@ -52,4 +52,4 @@ drainWords = bindingWord 0 1 ∷ forbiddenWord ∷ bindingWord 0 1 ∷ costWord 
 pub record OverDrain : Type 0 where
   pub there : hasForbidden (entriesFrom [] drainWords) (1 ∷ []) ≡ true
   pub beside : hasForbidden (entriesFrom [] drainWords) (0 ∷ []) ≡ false
-  pub cost : cost (entriesFrom [] drainWords) (1 ∷ []) ≡ forbiddenCost + 3
+  pub dear : cost (entriesFrom [] drainWords) (1 ∷ []) ≡ forbiddenCost + 3
