@@ -3,7 +3,7 @@ pub mod Merging
 pub mod Coding
 pub mod Entries
 pub mod Instances
-pub mod Clearing
+pub mod Filling
 pub mod Looking
 pub mod Writing
 pub mod Answering

@@ -1,9 +1,9 @@
 // The encode call: an instance as rows in a table that the caller lends. It looks before it writes.
 ghost use mathlib.Core.Path.{_≡_};
 ghost use mathlib.Core.Bool.{true, not, _&&_, cond};
-ghost use mathlib.Core.List.{[], _++_, map};
-ghost use Prim.Native.Nat.{_+_, _-_, _<_, _≤_};
-ghost use lib.ListN.{length, take, drop, replicate};
+ghost use mathlib.Core.List.{[], map};
+ghost use Prim.Native.Nat.{_+_, _<_, _≤_};
+ghost use lib.ListN.{length, take, drop};
 ghost use lib.Dec.{eqb, leb};
 ghost use Rattle.wcsp.specs.Sign.{full};
 ghost use Rattle.wcsp.specs.Clause.{same};
@@ -138,24 +138,12 @@ fn has_room(instance: &[u32], at: usize, fulls: Clause, room: usize) -> bool
     distinct(instance, at, fulls) <= room
 }
 
-// Zeros from an index to the end of the slice.
-fn zero_from(t: &mut [u32], at: usize)
-    requires { ⌜ at ≤ length (now t) ⌝ }
-    ensures { λ r. ⌜ now (t .exit) ≡ take at (now (t .entry)) ++ replicate (length (now (t .entry)) - at) 0 ⌝ }
-{
-    let mut i = at;
-    while i < t.len() {
-        t[i] = 0;
-        i += 1;
-    }
-}
-
 // The table of no rows over the whole slice.
 fn clear(t: &mut [u32], n: usize, sizes: &[u8; 12])
     requires { ⌜ (n ≤ 12) × (length (now sizes) ≡ 12) × (n + 2 ≤ length (now t)) ⌝ }
     ensures { λ r. ⌜ now (t .exit) ≡ tableWords (length (now (t .entry))) (take n (now (sizes .entry))) [] ⌝ }
 {
-    zero_from(t, n + 1);
+    table::zero_from(t, n + 1);
     fields::write_front(t, sizes, n);
     t[n + 1] = words::count(0);
 }

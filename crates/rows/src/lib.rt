@@ -22,18 +22,25 @@ pub enum Found {
     Missing,
 }
 
-// The clause of row k.
-pub fn clause_of(t: &[u32], base: usize, k: usize) -> Clause
-    requires { ⌜ base + rowWidth * k + rowWidth ≤ length (now t) ⌝ }
-    ensures { λ r. ⌜ (r ≡ clauseIn (rawAt (now (t .entry)) (base + rowWidth * k))) × FitsBlocks r ⌝ }
+// The clause of the row whose words start at this place.
+pub fn clause_at(t: &[u32], at: usize) -> Clause
+    requires { ⌜ at + 4 ≤ length (now t) ⌝ }
+    ensures { λ r. ⌜ (r ≡ clauseIn (rawAt (now (t .entry)) at)) × FitsBlocks r ⌝ }
 {
-    let at = base + WIDTH * k;
     Clause {
         a: t[at] % 16777216,
         b: t[at + 1] % 16777216,
         c: t[at + 2] % 16777216,
         d: t[at + 3] % 16777216,
     }
+}
+
+// The clause of row k.
+pub fn clause_of(t: &[u32], base: usize, k: usize) -> Clause
+    requires { ⌜ base + rowWidth * k + rowWidth ≤ length (now t) ⌝ }
+    ensures { λ r. ⌜ (r ≡ clauseIn (rawAt (now (t .entry)) (base + rowWidth * k))) × FitsBlocks r ⌝ }
+{
+    clause_at(t, base + WIDTH * k)
 }
 
 // The weight of row k.

@@ -1,16 +1,19 @@
 -- The rows of a table of any form: what is read from words that pass the test is what their raw rows are made from, and the words of valid rows pass it.
-use Prim.Native.Nat.{ℕ, zero, suc, _<_}
-use mathlib.Core.Path.{_≡_, refl, sym, ap₂, _∙_}
+use Prim.Native.Nat.{ℕ, zero, suc, _+_, _*_, _<_}
+use native.Mathlib.Nat.{le-of-suc-le-suc}
+use native.Mathlib.Omega.{arith}
+use mathlib.Core.Path.{_≡_, refl, sym, ap, ap₂, _∙_}
 use mathlib.Core.Bool.{true, not, _&&_}
-use mathlib.Core.List.{List, _∷_, _++_, map, append-assoc}
-use lib.ListN.{length, drop, length-map}
+use mathlib.Core.List.{List, [], _∷_, _++_, map, append-assoc}
+use lib.ListN.{length, getD, drop, length-map}
 use lib.Seq.{drop-at}
 use borrow.Author.Tests.{not-true}
 use Rattle.wcsp.specs.Clause.{ValidClause}
 use Rattle.wcsp.specs.Row.{Row, ValidRows, nilRows, consRows}
+use Rattle.wcsp.specs.Resolve.{noRow}
 use Rattle.wcsp.proofs.Lists.{both-true, and-left, and-right}
 use Rattle.rows.specs.Form.{flatIn, rawsFromIn}
-use Rattle.rows.proofs.FormRows.{length-rawsFrom}
+use Rattle.rows.proofs.FormRows.{length-rawsFrom, raw-at}
 use Rattle.table.specs.Form.{TableForm}
 use Rattle.table.specs.Meaning.{rowsFromIn}
 use Rattle.table.specs.Valid.{signKinds, validSigns, validRowIn, rowsValidIn, hasSigns, distinctRows}
@@ -22,7 +25,23 @@ pub length-rowsFrom : (f : TableForm) (k : ℕ) (ws : List ℕ) → length (rows
 unfolding rowsFromIn
 length-rowsFrom f k ws = length-map (rawsFromIn (f .rows) k ws) (f .rowOf) ∙ length-rawsFrom (f .rows) k ws
 
+-- an element of a list, and of what each comes to
+mapped-at : {A : Type 0} (g : A → Row) (rs : List A) (none : A) (k : ℕ) → k < length rs → getD (map g rs) k noRow ≡ g (getD rs k none)
+mapped-at g [] none k h = absurd (omega arith)
+mapped-at g (r ∷ rs) none zero h = refl
+mapped-at g (r ∷ rs) none (suc k) h = mapped-at g rs none k (le-of-suc-le-suc h)
+
 module _ (f : TableForm) (law : TableLaws f) where
+  -- row k of a table
+  pub row-at : (t : List ℕ) (base count k : ℕ) → k < count
+      → getD (rowsFromIn f count (drop base t)) k noRow ≡ f .rowOf (f .rows .read t (base + f .rows .width * k))
+  unfolding rowsFromIn
+  row-at t base count k h =
+      let n = length-rawsFrom (f .rows) count (drop base t) in
+      let none = f .rows .read [] 0 in
+      mapped-at (f .rowOf) (rawsFromIn (f .rows) count (drop base t)) none k (omega arith)
+      ∙ ap (f .rowOf) (raw-at (f .rows) (law .form) t base count k none h)
+
   pub rows-raws : {rs : List Row} → AllCarriedIn (f .limit) rs → map (f .rowOf) (map (f .rawOf) rs) ≡ rs
   rows-raws nilCarried = refl
   rows-raws (consCarried {r = r} h t) = ap₂ (λ q qs. q ∷ qs) (law .says r h) (rows-raws t)

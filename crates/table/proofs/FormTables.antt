@@ -115,6 +115,7 @@ length-words f law len ds rs h =
 -- what the tests of a table say
 pub record PassedIn (f : TableForm) (t : List ℕ) : Type 0 where
   pub given : headIn (getD t 0 0) ≡ some (variablesOf t)
+  pub front : validFront t (variablesOf t) ≡ true
   pub head : getD t 0 0 ≡ headWord (variablesOf t)
   pub few : variablesOf t ≤ maxVariables
   pub room : rowsAt (variablesOf t) ≤ length t
@@ -150,6 +151,7 @@ passed f t e = go (headIn (getD t 0 0)) refl e
         let k = s .0 in
         record {
           given = q;
+          front = e3;
           head = omega arith;
           few = s .3;
           room = leb-true (n + 2) (length t) (and-left a b e2);

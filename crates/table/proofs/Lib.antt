@@ -7,6 +7,8 @@ pub mod TableLaws
 pub mod FormRows
 pub mod FormTables
 pub mod FormFinishing
+pub mod FormTests
+pub mod Clearing
 pub mod RawRows
 pub mod Canonical
 pub mod Finishing

@@ -1,6 +1,5 @@
 -- The form that every table has keeps the laws of a form of tables: rows and raw rows give each other, and a row's words pass the tests exactly if they are made from it.
 use Prim.Native.Nat.{ℕ, zero, suc, _+_, _*_, _<_, _≤_}
-use native.Mathlib.Nat.{le-of-suc-le-suc}
 use native.Mathlib.Omega.{arith}
 use mathlib.Core.Path.{_≡_, refl, sym, ap, _∙_}
 use mathlib.Core.Bool.{true, _&&_}
@@ -14,12 +13,12 @@ use Rattle.wcsp.proofs.Lists.{and-left, and-right}
 use Rattle.words.specs.Layout.{packed}
 use Rattle.clause.specs.declared.Clause.{Clause}
 use Rattle.clause.specs.Packed.{signsOf, FitsBlocks}
-use Rattle.rows.specs.Raw.{rowWidth, maxWeight, Raw, noRaw, rawWords, rawAt, rawsIn, weightIn, rowWeighs, signWords, rawRow, clauseIn}
-use Rattle.rows.proofs.Flat.{rowLaws, length-rawsFrom, raw-at}
+use Rattle.rows.specs.Raw.{rowWidth, maxWeight, Raw, noRaw, rawWords, rawAt, weightIn, rowWeighs, signWords, rawRow, clauseIn}
+use Rattle.rows.proofs.Flat.{rowLaws}
 use Rattle.rows.proofs.RowWords.{clauseIn-rawRow, weight-most, weight-rawRow, weight-none, weight-made, weight-positive, weight-passes, row-of-words}
 use Rattle.table.specs.Clauses.{clauseFrom}
 use Rattle.table.specs.Raws.{rowOf, rawOf, standardForm}
-use Rattle.table.specs.Meaning.{rowsFromIn, rowsFrom}
+use Rattle.table.specs.Meaning.{rowsFrom}
 use Rattle.table.specs.Valid.{isSigns, signKinds}
 use Rattle.table.proofs.Twelve.{twelve-signsOf, signs-clauseFrom, packed-clauseFrom, clauseFrom-signs}
 use Rattle.table.proofs.Carried.{Carried, AllCarried}
@@ -123,11 +122,6 @@ rows-raws h = forms.rows-raws standardForm tableLaws h
 pub carried-rowsFrom : (k : ℕ) (ws : List ℕ) → AllCarried (rowsFrom k ws)
 carried-rowsFrom k ws = forms.carried-rowsFrom standardForm tableLaws k ws
 
-mapped-at : (rs : List Raw) (k : ℕ) → k < length rs → getD (map rowOf rs) k noRow ≡ rowOf (getD rs k noRaw)
-mapped-at [] k h = absurd (omega arith)
-mapped-at (r ∷ rs) zero h = refl
-mapped-at (r ∷ rs) (suc k) h = mapped-at rs k (le-of-suc-le-suc h)
-
 -- the weight of a row and of the raw row that carries it; past the last both are 0
 pub weight-raws : (rs : List Row) (k : ℕ) → getD rs k noRow .weight ≤ maxWeight → weightIn (getD (map rawOf rs) k noRaw) ≡ getD rs k noRow .weight
 weight-raws [] k h = weight-none
@@ -137,10 +131,7 @@ weight-raws (r ∷ rs) (suc k) h = weight-raws rs k h
 -- row k of a table
 module _ (t : List ℕ) (base count k : ℕ) (h : k < count) where
   pub row-at : getD (rowsFrom count (drop base t)) k noRow ≡ rowOf (rawAt t (base + rowWidth * k))
-  unfolding rowsFromIn
-  row-at =
-      let n = length-rawsFrom count (drop base t) in
-      mapped-at (rawsIn t base count) k (omega arith) ∙ ap rowOf (raw-at t base count k h)
+  row-at = forms.row-at standardForm tableLaws t base count k h
 
   pub signs-at : getD (rowsFrom count (drop base t)) k noRow .signs ≡ signsOf (clauseIn (rawAt t (base + rowWidth * k)))
   signs-at = ap (λ (r : Row). r .signs) row-at ∙ rowOf-signs (rawAt t (base + rowWidth * k))

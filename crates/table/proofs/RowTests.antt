@@ -1,5 +1,5 @@
 -- The tests of a row as the code makes them: the bytes of two blocks side by side, the kinds of its sign words, and all together with its weight.
-use Prim.Native.Nat.{ℕ, _+_, _*_, _/_, _%_, _<_, _≤_}
+use Prim.Native.Nat.{ℕ, _+_, _/_, _%_, _<_, _≤_}
 use native.Mathlib.Omega.{arith}
 use mathlib.Core.Path.{_≡_, refl, sym, ap, _∙_}
 use mathlib.Core.Bool.{Bool, true, false, _&&_, and-false}
@@ -12,7 +12,7 @@ use Rattle.wcsp.specs.Sign.{full}
 use Rattle.words.specs.Layout.{unpacked}
 use Rattle.clause.specs.declared.Clause.{Clause}
 use Rattle.clause.specs.Packed.{signsOf, FullSigns}
-use Rattle.rows.specs.Raw.{rowWidth, rawAt, rowWeighs, clauseIn}
+use Rattle.rows.specs.Raw.{rawAt, rowWeighs, clauseIn}
 use Rattle.rows.proofs.Flat.{rawAt-front}
 use Rattle.table.specs.Valid.{signKinds, validSigns, allBelow, validRowIn, validRow}
 use Rattle.table.proofs.WordTests.{signs-test}
@@ -128,8 +128,7 @@ module _ (t : List ℕ) (at : ℕ) where
   wrong-weight k e f ds = rw (row-there ds, ← e, f, and-false)
 
   pub as-signs : (k w : Bool) (x f : Clause) (r : Bool) → k ≡ signKinds (drop at t) → k ≡ true → w ≡ rowWeighs (drop at t) → w ≡ true
-      → x ≡ clauseIn (rawAt t (at + rowWidth * 0))
+      → x ≡ clauseIn (rawAt t at)
       → ((ds : List ℕ) → FullSigns f ds → r ≡ validSigns ds (signsOf x)) → (ds : List ℕ) → FullSigns f ds → r ≡ validRow ds (drop at t)
   as-signs k w x f r e g i j p h ds l =
-      let z : at + rowWidth * 0 ≡ at = omega arith in
-      rw (row-there ds, ← e, g, ← i, j) (h ds l ∙ ap (λ y. validSigns ds (signsOf y)) p ∙ ap (λ n. validSigns ds (signsOf (clauseIn (rawAt t n)))) z)
+      rw (row-there ds, ← e, g, ← i, j) (h ds l ∙ ap (λ y. validSigns ds (signsOf y)) p)

@@ -2,20 +2,22 @@
 use Prim.Native.Nat.{ℕ}
 use mathlib.Core.Bool.{cond}
 use mathlib.Core.List.{List, map}
-use lib.ListN.{take}
+use lib.ListN.{getD, take}
 use Rattle.wcsp.specs.Sign.{full}
 use Rattle.clause.specs.declared.Clause.{Clause}
 use Rattle.words.specs.Layout.{payloadOf}
-use Rattle.fields.specs.Front.{goodSizes}
+use Rattle.fields.specs.Front.{headIn, headed, goodSizes}
 use Rattle.fields.specs.Padding.{padded}
 use Rattle.table.specs.declared.Fulls.{Fulls}
 use Rattle.table.specs.declared.Fulls.the-variants.{Signs, Bad}
 use Rattle.table.specs.declared.Shape.{Shape}
 use Rattle.table.specs.declared.Checked.{Checked}
 use Rattle.table.specs.declared.Checked.the-variants.{Table, Invalid}
+use Rattle.table.specs.Form.{TableForm}
+use Rattle.table.specs.Raws.{standardForm}
 use Rattle.table.specs.Clauses.{clauseFrom}
 use Rattle.table.specs.Meaning.{variablesOf, rowCount, domains}
-use Rattle.table.specs.Valid.{validTable}
+use Rattle.table.specs.Valid.{validFront, validTableIn}
 
 -- ---- the test's answer
 
@@ -35,5 +37,13 @@ fullsIn Bad = record { a = 0; b = 0; c = 0; d = 0 }
 abbrev pub shapeOf : List ℕ → Shape
 shapeOf t = record { variables = variablesOf t; count = rowCount t; fulls = fullClause (domains t) }
 
-unfoldable pub checkTable : List ℕ → Checked
-checkTable t = cond (validTable t) (Table (shapeOf t)) Invalid
+-- the shape that head, sizes and row count give, where these words are there
+unfoldable pub frontTable : List ℕ → Checked
+frontTable t = headed Invalid (λ n. cond (validFront t n) (Table (shapeOf t)) Invalid) (headIn (getD t 0 0))
+
+unfoldable pub checkTableIn : TableForm → List ℕ → Checked
+checkTableIn f t = cond (validTableIn f t) (Table (shapeOf t)) Invalid
+
+-- in the form that every table has
+abbrev pub checkTable : List ℕ → Checked
+checkTable t = checkTableIn standardForm t

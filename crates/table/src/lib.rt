@@ -1,9 +1,9 @@
 // Tables that a caller hands in: valid or not, the shape of a valid one, and its empty row's weight.
 ghost use mathlib.Core.Path.{_≡_};
 ghost use mathlib.Core.Bool.{true, _&&_};
-ghost use mathlib.Core.List.{List};
-ghost use Prim.Native.Nat.{ℕ, _+_, _*_, _<_, _≤_};
-ghost use lib.ListN.{length, drop};
+ghost use mathlib.Core.List.{List, _++_};
+ghost use Prim.Native.Nat.{ℕ, _+_, _-_, _*_, _<_, _≤_};
+ghost use lib.ListN.{length, take, drop, replicate};
 ghost use Rattle.wcsp.specs.Sign.{full};
 ghost use Rattle.wcsp.specs.Row.{emptyWeight};
 ghost use Rattle.words.specs.Layout.{unpacked};
@@ -15,7 +15,7 @@ ghost use Rattle.table.specs.declared.Head.the-variants.{Variables, Abse
 ghost use Rattle.table.specs.Layout.{maxRows, rowsAt, capacity};
 ghost use Rattle.table.specs.Meaning.{variablesOf, rowCount, rowsFrom, tableRows};
 ghost use Rattle.table.specs.Valid.{signKinds, validSigns, validRow, rowsValid, distinctRows, allZero, allBelow, validTable};
-ghost use Rattle.table.specs.Check.{fullsFrom, fullsIn, shapeOf, checkTable};
+ghost use Rattle.table.specs.Check.{fullsFrom, fullsIn, shapeOf, frontTable, checkTable};
 use clause::Clause;
 use rows::Found;
 
@@ -112,7 +112,7 @@ fn block_below(x: u32, full: u32) -> bool
 }
 
 // No sign of the clause is full or beyond its variable's values.
-fn signs_valid(x: Clause, fulls: Clause) -> bool
+pub fn signs_valid(x: Clause, fulls: Clause) -> bool
     requires { ⌜ FitsBlocks x × FitsBlocks fulls ⌝ }
     ensures { λ r. ⌜ ((ds : List ℕ) → FullSigns fulls ds → r ≡ validSigns ds (signsOf x)) ⌝ }
 {
@@ -129,8 +129,8 @@ fn signs_valid(x: Clause, fulls: Clause) -> bool
 }
 
 // The four words at this place are sign words, in order.
-fn signs_there(t: &[u32], at: usize) -> bool
-    requires { ⌜ at + rowWidth ≤ length (now t) ⌝ }
+pub fn signs_there(t: &[u32], at: usize) -> bool
+    requires { ⌜ at + 4 ≤ length (now t) ⌝ }
     ensures { λ r. ⌜ r ≡ signKinds (drop at (now (t .entry))) ⌝ }
 {
     if t[at] / 16777216 != 80 {
@@ -156,7 +156,7 @@ fn row_valid(t: &[u32], at: usize, fulls: Clause) -> bool
     if !rows::weight_there(t, at) {
         return false;
     }
-    signs_valid(rows::clause_of(t, at, 0), fulls)
+    signs_valid(rows::clause_at(t, at), fulls)
 }
 
 // Every row is one, and none has the signs of an earlier row.
@@ -181,7 +181,7 @@ fn rows_valid(t: &[u32], base: usize, count: usize, fulls: Clause) -> bool
 }
 
 // Every word from this place on is 0.
-fn all_zero_from(t: &[u32], at: usize) -> bool
+pub fn all_zero_from(t: &[u32], at: usize) -> bool
     requires { ⌜ at ≤ length (now t) ⌝ }
     ensures { λ r. ⌜ r ≡ allZero (drop at (now (t .entry))) ⌝ }
 {
@@ -193,6 +193,18 @@ fn all_zero_from(t: &[u32], at: usize) -> bool
         i += 1;
     }
     true
+}
+
+// Zeros from an index to the end of the slice.
+pub fn zero_from(t: &mut [u32], at: usize)
+    requires { ⌜ at ≤ length (now t) ⌝ }
+    ensures { λ r. ⌜ now (t .exit) ≡ take at (now (t .entry)) ++ replicate (length (now (t .entry)) - at) 0 ⌝ }
+{
+    let mut i = at;
+    while i < t.len() {
+        t[i] = 0;
+        i += 1;
+    }
 }
 
 // The full signs of twelve variables, n of them with the sizes of the words behind the head, or a word there that is no size.
@@ -218,9 +230,9 @@ fn read_fulls(t: &[u32], n: usize) -> Fulls
     Fulls::Signs(fulls)
 }
 
-// The test of a whole slice: valid exactly as documents 01 and 02 say.
-pub fn check(t: &[u32]) -> Checked
-    ensures returned { λ r. ⌜ r ≡ checkTable (now (t .entry)) ⌝ }
+// The shape that head, sizes and row count give, where these words are there; nothing behind them is looked at.
+pub fn front(t: &[u32]) -> Checked
+    ensures { λ r. ⌜ r ≡ frontTable (now (t .entry)) ⌝ }
 {
     if t.len() == 0 {
         return Checked::Invalid;
@@ -238,22 +250,32 @@ pub fn check(t: &[u32]) -> Checked
     if words::kind(word) != 10 {
         return Checked::Invalid;
     }
-    let count = words::payload(word) as usize;
+    Checked::Table(Shape {
+        variables: n,
+        count: words::payload(word) as usize,
+        fulls,
+    })
+}
+
+// The test of a whole slice: valid exactly as documents 01 and 02 say.
+pub fn check(t: &[u32]) -> Checked
+    ensures returned { λ r. ⌜ r ≡ checkTable (now (t .entry)) ⌝ }
+{
+    let Checked::Table(shape) = front(t) else {
+        return Checked::Invalid;
+    };
+    let n = shape.variables;
+    let count = shape.count;
     if room(t.len(), n) < count {
         return Checked::Invalid;
     }
-    let base = n + 2;
-    if !rows_valid(t, base, count, fulls) {
+    if !rows_valid(t, n + 2, count, shape.fulls) {
         return Checked::Invalid;
     }
-    if !all_zero_from(t, base + rows::WIDTH * count) {
+    if !all_zero_from(t, n + 2 + rows::WIDTH * count) {
         return Checked::Invalid;
     }
-    Checked::Table(Shape {
-        variables: n,
-        count,
-        fulls,
-    })
+    Checked::Table(shape)
 }
 
 // The full signs that were read, no sign where there were none.

@@ -4,7 +4,8 @@ import unittest
 
 from reference import words
 from reference.fields import forbidden, instance, sheet, table
-from reference.limits import FORBIDDEN_WEIGHT, MAX_WEIGHT
+from reference.forms import FIVE, SIX
+from reference.limits import FIVE_MAX_WEIGHT, FORBIDDEN_WEIGHT, MAX_WEIGHT
 
 
 class Words(unittest.TestCase):
@@ -27,9 +28,14 @@ class Words(unittest.TestCase):
     def test_weights(self):
         self.assertEqual(FORBIDDEN_WEIGHT, 268_431_361)
         self.assertEqual(MAX_WEIGHT, 72_057_594_037_927_935)
-        self.assertEqual(words.weight_words(FORBIDDEN_WEIGHT), [0x6FFFF001, 0xC0000000])
-        self.assertEqual(words.weight_words(1 << 28), [0x60000000, 0xC0000001])
-        self.assertEqual(words.weight_words(MAX_WEIGHT), [0x6FFFFFFF, 0xCFFFFFFF])
+        self.assertEqual(SIX.weight_words(FORBIDDEN_WEIGHT), [0x6FFFF001, 0xC0000000])
+        self.assertEqual(SIX.weight_words(1 << 28), [0x60000000, 0xC0000001])
+        self.assertEqual(SIX.weight_words(MAX_WEIGHT), [0x6FFFFFFF, 0xCFFFFFFF])
+
+    def test_weights_of_one_word(self):
+        self.assertEqual(FIVE_MAX_WEIGHT, 268_435_455)
+        self.assertEqual(FIVE.weight_words(FORBIDDEN_WEIGHT), [0x6FFFF001])
+        self.assertEqual(FIVE.weight_words(FIVE_MAX_WEIGHT), [0x6FFFFFFF])
 
     def test_unpacking(self):
         self.assertEqual(words.coordinate_of(0x9FF0BDC0), -1_000_000)
@@ -57,3 +63,7 @@ class Words(unittest.TestCase):
                          [0x10000004, 0x20000002, 0x20000003, 0x20000004, 0x20000002, 0xA0000002,
                           0x50080502, 0x51000001, 0x52000000, 0x53000000, 0x60000009, 0xC0000000,
                           0x50000000, 0x51000000, 0x52000000, 0x53000000, 0x60000004, 0xC0000003, 0, 0])
+        self.assertEqual(table([2, 3, 4, 2], "2,5,8,1:9 empty:4", 18, FIVE),
+                         [0x10000004, 0x20000002, 0x20000003, 0x20000004, 0x20000002, 0xA0000002,
+                          0x50080502, 0x51000001, 0x52000000, 0x53000000, 0x60000009,
+                          0x50000000, 0x51000000, 0x52000000, 0x53000000, 0x60000004, 0, 0])

@@ -5,6 +5,8 @@ lent slice beside the returned fields.
 """
 
 from .checker import check_call
+from .conversions import to_five, to_six
+from .derivations import most_rows
 from .inputs import make_instance
 from .planning import Buffers, solved
 from .plans import complete_call, plan_call
@@ -14,5 +16,5 @@ from .season import season_line
 from .steps import run_call, step_call
 from .tables import encode
 
-__all__ = ["Buffers", "check_call", "complete_call", "encode", "make_instance", "plan_call", "printed_plan",
-           "readout_call", "run_call", "season_line", "solved", "step_call"]
+__all__ = ["Buffers", "check_call", "complete_call", "encode", "make_instance", "most_rows", "plan_call", "printed_plan",
+           "readout_call", "run_call", "season_line", "solved", "step_call", "to_five", "to_six"]

@@ -22,6 +22,7 @@ PAIR_LEFT = 13
 # Of document 02's requests.
 BAD_FIXED = 14
 FORBIDDEN = 15
+WEIGHT_TOO_WIDE = 16
 
 
 class Refused(Exception):

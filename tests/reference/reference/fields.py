@@ -3,8 +3,9 @@
 from itertools import combinations, islice, product
 
 from . import words
+from .forms import SIX
 from .inputs import Entry, Instance, entry_words, instance_words
-from .limits import FORBIDDEN_WEIGHT, MAX_SIZE, MAX_WEIGHT, ROW_WORDS
+from .limits import FORBIDDEN_WEIGHT, MAX_SIZE, MAX_WEIGHT
 from .tables import Row, rows_start, table_words
 
 NO_WORDS = b""      # a sheet of a season
@@ -90,17 +91,17 @@ def settled_rows(weights):
     return made
 
 
-def table(sizes, text, length):
+def table(sizes, text, length, form=SIX):
     """The slice of this length that holds a table of these rows, zero past them."""
-    written = table_words(sizes, rows(text, len(sizes)), length)
+    written = table_words(sizes, rows(text, len(sizes)), length, form)
     if len(written) != length:
         raise ValueError("the rows do not fit into the slice")
     return written
 
 
-def table_length(variables, row_total, spare=0):
+def table_length(variables, row_total, spare=0, form=SIX):
     """The length of a slice that has room for so many rows, with spare words behind them."""
-    return rows_start(variables) + ROW_WORDS * row_total + spare
+    return rows_start(variables) + form.row_words * row_total + spare
 
 
 def as_bytes(sequence):

@@ -1,12 +1,14 @@
-"""A clause table in lent words: capacity, validity (9), reading and writing, and the encoding of an instance."""
+"""A clause table in lent words: capacity, validity (9), reading and writing, in either form of its rows, and the encoding of an
+instance."""
 
 from typing import NamedTuple
 
 from . import words
 from .answers import BAD_TABLE, GOOD, TABLE_FULL, TARGET_TOO_SHORT, Refused, require
 from .clauses import complement, full, is_tautology
+from .forms import SIX
 from .inputs import read_instance
-from .limits import MAX_ROWS, MAX_SIZE, MAX_VARIABLES, ROW_WORDS, SIGN_WORDS, SIGNS_PER_WORD
+from .limits import MAX_ROWS, MAX_SIZE, MAX_VARIABLES, SIGN_WORDS, SIGNS_PER_WORD
 
 
 class Row(NamedTuple):
@@ -29,8 +31,8 @@ def rows_start(variables):
     return variables + 2
 
 
-def capacity(variables, length):
-    return min(MAX_ROWS, (length - rows_start(variables)) // ROW_WORDS)
+def capacity(variables, length, form=SIX):
+    return min(MAX_ROWS, (length - rows_start(variables)) // form.row_words)
 
 
 def padded(signs):
@@ -38,29 +40,29 @@ def padded(signs):
     return tuple(signs) + (0,) * (SIGN_WORDS * SIGNS_PER_WORD - len(signs))
 
 
-def row_words(row):
+def row_words(row, form):
     signs = padded(row.signs)
     triples = [signs[at:at + SIGNS_PER_WORD] for at in range(0, len(signs), SIGNS_PER_WORD)]
-    return [words.signs(index, triple) for index, triple in enumerate(triples)] + words.weight_words(row.weight)
+    return [words.signs(index, triple) for index, triple in enumerate(triples)] + form.weight_words(row.weight)
 
 
-def table_words(sizes, rows, length):
+def table_words(sizes, rows, length, form=SIX):
     """The whole slice of a table, zero past the last row."""
     written = [words.head(len(sizes))] + [words.size(size) for size in sizes] + [words.row_count(len(rows))]
     for row in rows:
-        written += row_words(row)
+        written += row_words(row, form)
     return written + [0] * (length - len(written))
 
 
-def read_table(source):
-    """The table in the given words, or refusal 9."""
+def read_table(source, form=SIX):
+    """The table of this form in the given words, or refusal 9."""
     count = valid_payload(source, 0, words.HEAD, 1, MAX_VARIABLES)
     start = rows_start(count)
     require(start <= len(source), BAD_TABLE)
     sizes = tuple(valid_payload(source, 1 + variable, words.SIZE, 1, MAX_SIZE) for variable in range(count))
-    used = valid_payload(source, 1 + count, words.ROW_COUNT, 0, capacity(count, len(source)))
-    rows = [read_row(source, start + ROW_WORDS * index, sizes) for index in range(used)]
-    require(not any(source[start + ROW_WORDS * used:]), BAD_TABLE)
+    used = valid_payload(source, 1 + count, words.ROW_COUNT, 0, capacity(count, len(source), form))
+    rows = [read_row(source, start + form.row_words * index, sizes, form) for index in range(used)]
+    require(not any(source[start + form.row_words * used:]), BAD_TABLE)
     require(len({row.signs for row in rows}) == len(rows), BAD_TABLE)
     return Table(sizes, rows)
 
@@ -72,7 +74,7 @@ def valid_payload(source, at, kind, lowest, highest):
     return payload
 
 
-def read_row(source, at, sizes):
+def read_row(source, at, sizes, form):
     signs = []
     for index in range(SIGN_WORDS):
         triple = words.signs_of(source[at + index], index)
@@ -81,14 +83,9 @@ def read_row(source, at, sizes):
     # Below full: neither full nor beyond the values of the variable.
     require(all(sign < full(size) for sign, size in zip(signs, sizes)), BAD_TABLE)
     require(not any(signs[len(sizes):]), BAD_TABLE)
-    return Row(tuple(signs[:len(sizes)]), read_weight(source, at + SIGN_WORDS))
-
-
-def read_weight(source, at):
-    low = valid_payload(source, at, words.WEIGHT, 0, words.PAYLOAD_MASK)
-    high = valid_payload(source, at + 1, words.HIGH_WEIGHT, 0, words.PAYLOAD_MASK)
-    require(low or high, BAD_TABLE)
-    return high << words.PAYLOAD_BITS | low
+    weight = form.weight_of(source[at + SIGN_WORDS:at + form.row_words])
+    require(weight is not None, BAD_TABLE)
+    return Row(tuple(signs[:len(sizes)]), weight)
 
 
 def added(sizes, rows, weighted):

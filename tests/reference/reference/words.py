@@ -14,7 +14,7 @@ SIZE = 2        # document 01: station word
 BINDING = 3     # document 01: pair (station, spot)
 COST = 4
 SIGNS = 5
-WEIGHT = 6      # its low bits
+WEIGHT = 6      # its low bits; in last year's tables all
 STEP = 7
 EASTING = 8
 NORTHING = 9
@@ -73,10 +73,6 @@ def weight(low):
 def high_weight(high):
     """The bits of a weight that its first word has no room for."""
     return word(HIGH_WEIGHT, high)
-
-
-def weight_words(amount):
-    return [weight(amount & PAYLOAD_MASK), high_weight(amount >> PAYLOAD_BITS)]
 
 
 def step(variable, first, second):

@@ -3,7 +3,8 @@ use borrow.Author.Needs.{needs}
 use native.Mathlib.Omega.{arith}
 use lib.ListN.{take}
 use lib.Seq.{length-take-le}
-use Rattle.encoding.proofs.Clearing.{zeroed-asks, cleared, cleared-long, cleared-room}
+use Rattle.table.specs.Raws.{standardForm}
+use Rattle.table.proofs.Clearing.{zeroed-asks, cleared, cleared-long, cleared-room}
 use Rattle.encoding.proofs.clear.Statement.{statement}
 use Rattle.encoding.proofs.clear.Tie as tie
 
@@ -25,7 +26,7 @@ write-front-requires c κs =
 returns : tie.Need-returns
 returns c =
     let s = c .before .before .before .before .before .before .before .before .before .before in
-    cleared _ _ _ _ (s .args .n) (length-take-le (s .args .n) (s .args .sizes .now) (omega arith)) (omega arith) (c .before .before .before .before .before .before .before .zero-from .ensures) (c .before .before .before .write-front .ensures) _ (c .count .ensures)
+    cleared _ _ _ _ (s .args .n) (length-take-le (s .args .n) (s .args .sizes .now) (omega arith)) (omega arith) (c .before .before .before .before .before .before .before .zero-from .ensures) (c .before .before .before .write-front .ensures) standardForm _ (c .count .ensures)
 
 pub clear-spec : {M : Type 1} → statement M
 clear-spec =

@@ -5,7 +5,7 @@ use native.Mathlib.Omega.{arith}
 use mathlib.Core.Path.{ap, _∙_}
 use Rattle.wcsp.specs.Sign.{full}
 use Rattle.fields.proofs.Padding.{sizes-at}
-use Rattle.encoding.proofs.Clearing.{Filled, filled-start, filled-next, filled-end}
+use Rattle.encoding.proofs.Filling.{Filled, filled-start, filled-next, filled-end}
 use Rattle.encoding.proofs.full_signs.Statement.{statement}
 use Rattle.encoding.proofs.full_signs.Tie as tie
 

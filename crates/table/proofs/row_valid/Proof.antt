@@ -20,7 +20,7 @@ returns-3 c =
     let w = c .before .before .before in
     let g = w .before .before .before .before .args in
     as-signs (g .t .now) (g .at) _ _ _ (g .fulls) _ (w .before .before .signs-there .ensures) (not-false _ (w .before .if1 .left))
-    (w .weight-there .ensures) (not-false _ (c .before .before .if2 .left)) (c .before .clause-of .ensures .0) (c .signs-valid .ensures)
+    (w .weight-there .ensures) (not-false _ (c .before .before .if2 .left)) (c .before .clause-at .ensures .0) (c .signs-valid .ensures)
 
 pub row-valid-spec : {M : Type 1} → statement M
 row-valid-spec =

@@ -5,18 +5,21 @@ use mathlib.Core.Path.{_≡_}
 use borrow.Author.Needs.{needs}
 use borrow.Author.Tests.{not-true, not-false}
 use Rattle.rows.specs.Raw.{rowWidth}
-use Rattle.table.proofs.RowsTests.{TestedFor, none-tested, row-fails, pair-fails, tested-more, all-pass}
+use Rattle.table.specs.Raws.{standardForm}
+use Rattle.table.proofs.RawRows.{tableLaws}
+use Rattle.table.proofs.FormTests.{TestedFor, none-tested, row-fails, all-pass}
+use Rattle.table.proofs.RowsTests.{pair-fails, tested-more}
 use Rattle.table.proofs.rows_valid.Statement.{statement}
 use Rattle.table.proofs.rows_valid.Tie as tie
 
 abbrev Inv-loop : tie.InvT-loop
-Inv-loop t base count fulls k₀ at₀ k at = (k ≤ count) × (at ≡ base + rowWidth * k) × TestedFor fulls t base k
+Inv-loop t base count fulls k₀ at₀ k at = (k ≤ count) × (at ≡ base + rowWidth * k) × TestedFor standardForm fulls t base k
 
 abbrev μ-loop : tie.MeasureT-loop
 μ-loop t base count fulls k₀ at₀ k at = count - k
 
 loop-holds : tie.Need-loop-holds Inv-loop μ-loop
-loop-holds c = (omega arith, omega arith, λ ds h. none-tested ds _ _)
+loop-holds c = (omega arith, omega arith, λ ds h. none-tested standardForm ds _ _)
 
 row-valid-requires : tie.Need-row-valid-requires Inv-loop μ-loop
 row-valid-requires c κs = (omega arith, c .before .before .before .pre .1)
@@ -25,7 +28,7 @@ returns : tie.Need-returns Inv-loop μ-loop
 returns c =
     let l = c .before .before .before in
     let g = l .before .before .args in
-    row-fails (g .t .now) (g .base) (l .loop .at) (l .loop .k) (g .count) (g .fulls) _ (l .loop .inv .1) (c .before .row-valid .ensures)
+    row-fails standardForm tableLaws (g .t .now) (g .base) (l .loop .at) (l .loop .k) (g .count) (g .fulls) _ (l .loop .inv .1) (c .before .row-valid .ensures)
     (omega arith) (not-true _ (c .if1 .taken))
 
 find-requires : tie.Need-find-requires Inv-loop μ-loop
@@ -54,7 +57,7 @@ returns-3 : tie.Need-returns-3 Inv-loop μ-loop
 returns-3 c =
     let l = c .before in
     let g = l .before .before .args in
-    all-pass (g .t .now) (g .base) (l .loop .k) (g .count) (g .fulls) (omega arith) (l .loop .inv .2)
+    all-pass standardForm tableLaws (g .t .now) (g .base) (l .loop .k) (g .count) (g .fulls) (omega arith) (l .loop .inv .2)
 
 pub rows-valid-spec : {M : Type 1} → statement M
 rows-valid-spec =

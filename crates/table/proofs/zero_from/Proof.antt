@@ -3,9 +3,9 @@ use Prim.Native.Nat.{_-_}
 use borrow.Author.Needs.{needs}
 use native.Mathlib.Omega.{arith}
 use lib.ListN.{length, length-set}
-use Rattle.encoding.proofs.Clearing.{Zeroed, zeroed-start, zeroed-next, zeroed-end}
-use Rattle.encoding.proofs.zero_from.Statement.{statement}
-use Rattle.encoding.proofs.zero_from.Tie as tie
+use Rattle.table.proofs.Clearing.{Zeroed, zeroed-start, zeroed-next, zeroed-end}
+use Rattle.table.proofs.zero_from.Statement.{statement}
+use Rattle.table.proofs.zero_from.Tie as tie
 
 abbrev Inv-loop : tie.InvT-loop
 Inv-loop t₀ at i₀ t i = Zeroed t₀ at t i

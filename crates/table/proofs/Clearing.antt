@@ -1,20 +1,17 @@
--- Zeros to the end of a slice, the table of no rows that they make with the front and the count, and the full signs of twelve variables.
+-- Zeros to the end of a slice, and the table of no rows that they make with the front and the count, in any form.
 use Prim.Native.Nat.{ℕ, suc, _+_, _-_, _*_, _<_, _≤_}
+use native.Mathlib.Nat.{mul-zero}
 use native.Mathlib.Omega.{arith}
 use native.Mathlib.Numerals.{add-one}
 use mathlib.Core.Path.{_≡_, refl, sym, ap, ap₂, _∙_}
-use mathlib.Core.List.{List, [], _∷_, _++_, map, append-assoc, append-nil}
-use lib.ListN.{length, getD, set, take, drop, replicate, length-set, length-take, length-append, length-replicate, length-map, replicate-append-replicate}
-use lib.Seq.{sets, sets-eq, length-sets, take-suc, take-suc-set, take-all, length-take-le, drop-at, set-at}
-use Rattle.wcsp.specs.Sign.{full}
+use mathlib.Core.List.{List, [], _∷_, _++_, append-assoc, append-nil}
+use lib.ListN.{length, set, take, drop, replicate, length-set, length-take, length-append, length-replicate, length-map, replicate-append-replicate}
+use lib.Seq.{sets, sets-eq, length-sets, take-suc-set, take-all, length-take-le, drop-at, set-at}
 use Rattle.words.specs.Layout.{sizeWord, countWord}
 use Rattle.fields.specs.Front.{frontWords}
-use Rattle.clause.specs.declared.Clause.{Clause}
-use Rattle.clause.specs.Packed.{signsOf, FitsBlocks, Holds}
 use Rattle.rows.specs.Form.{flatIn}
-use Rattle.rows.specs.Raw.{rowWidth}
-use Rattle.table.specs.Layout.{rowsAt, tableWordsIn, tableWords}
-use Rattle.wcsp.proofs.Signs.{full-at}
+use Rattle.table.specs.Form.{TableForm}
+use Rattle.table.specs.Layout.{rowsAt, tableWordsIn}
 
 -- ---- zeros
 
@@ -84,57 +81,12 @@ module _ (t₀ t₁ t₂ ds : List ℕ) (n : ℕ) (few : length ds ≡ n) (room 
   pub cleared-room : n + 1 < length t₂
   cleared-room = omega (arith, ap length front ∙ length-sets t₁ 0 (frontWords ds), zeros-long)
 
-  pub cleared : (c : ℕ) → c ≡ countWord 0 → set t₂ (n + 1) c ≡ tableWords (length t₀) ds []
+  pub cleared : (f : TableForm) (c : ℕ) → c ≡ countWord 0 → set t₂ (n + 1) c ≡ tableWordsIn f (length t₀) ds []
   unfolding tableWordsIn flatIn
-  cleared c e =
+  cleared f c e =
       let m : length t₀ - (n + 1) ≡ suc (length t₀ - (n + 2)) = omega arith in
-      let z : length t₀ - (n + 2) ≡ length t₀ - (rowsAt (length ds) + rowWidth * 0) = omega arith in
+      let none = mul-zero (f .rows .width) in
+      let z : length t₀ - (n + 2) ≡ length t₀ - (rowsAt (length ds) + f .rows .width * 0) = omega arith in
       ap (λ l. set l (n + 1) c) (front-first ∙ ap (λ k. frontWords ds ++ replicate k 0) m)
       ∙ set-at (frontWords ds) 0 (replicate (length t₀ - (n + 2)) 0) c (n + 1) front-long
       ∙ ap₂ (λ x k. frontWords ds ++ (x ∷ replicate k 0)) e z
-
--- ---- full signs
-
--- the first i signs are full, the others 0
-pub record Filled (sizes : List ℕ) (fulls : Clause) (i : ℕ) : Type 0 where
-  pub upto : i ≤ 12
-  pub packed : FitsBlocks fulls
-  pub is : signsOf fulls ≡ take i (map full sizes) ++ replicate (12 - i) 0
-
-filled-more : (fs : List ℕ) (i : ℕ) → length fs ≡ 12 → i < 12
-    → set (take i fs ++ replicate (12 - i) 0) i (getD fs i 0) ≡ take (i + 1) fs ++ replicate (12 - (i + 1)) 0
-filled-more fs i e h =
-    let n : 12 - i ≡ suc (12 - (i + 1)) = omega arith in
-    let k : i < length fs = omega arith in
-    let front : length (take i fs) ≡ i = length-take-le i fs (omega arith) in
-    ap (λ m. set (take i fs ++ replicate m 0) i (getD fs i 0)) n
-    ∙ set-at (take i fs) 0 (replicate (12 - (i + 1)) 0) (getD fs i 0) i front
-    ∙ sym (append-assoc (take i fs) (getD fs i 0 ∷ []) (replicate (12 - (i + 1)) 0))
-    ∙ ap (λ u. u ++ replicate (12 - (i + 1)) 0) (sym (take-suc fs i 0 k) ∙ ap (λ j. take j fs) (sym (add-one i)))
-
-filled-whole : (fs : List ℕ) (i : ℕ) → length fs ≡ 12 → i ≡ 12 → take i fs ++ replicate (12 - i) 0 ≡ fs
-filled-whole fs i e h =
-    let z : 12 - i ≡ 0 = omega arith in
-    let l : length fs ≤ i = omega arith in
-    ap (λ m. take i fs ++ replicate m 0) z ∙ append-nil (take i fs) ∙ take-all i fs l
-
-module _ (sizes : List ℕ) (long : length sizes ≡ 12) where
-  full-long : length (map full sizes) ≡ 12
-  full-long = length-map sizes full ∙ long
-
-  pub filled-start : (x : Clause) → Holds x (replicate 12 0) → Filled sizes x 0
-  filled-start x h = record { upto = omega arith; packed = h .packed; is = h .signsAre }
-
-  module _ (x : Clause) (i : ℕ) (f : Filled sizes x i) where
-    pub filled-next : (y : Clause) (v : ℕ) → i < 12 → v ≡ full (getD sizes i 0) → Holds y (set (signsOf x) i v) → Filled sizes y (i + 1)
-    filled-next y v h e g =
-        record {
-          upto = omega arith;
-          packed = g .packed;
-          is = g .signsAre ∙ ap₂ (λ s u. set s i u) (f .is) (e ∙ sym (full-at sizes i)) ∙ filled-more (map full sizes) i full-long h;
-        }
-
-    pub filled-end : 12 ≤ i → Holds x (map full sizes)
-    filled-end h =
-        let upto = f .upto in
-        record { packed = f .packed; signsAre = f .is ∙ filled-whole (map full sizes) i full-long (omega arith) }
