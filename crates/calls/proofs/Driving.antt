@@ -1,20 +1,23 @@
--- The driver's loop: the words that are left do to what the slices hold what all words do to the start. What they do is a list of calls, so
--- demand 3 is upheld.
+-- The driver's loop: the words that are left do to what the slices hold what all words do to the start. What they do is a list of calls without a
+-- conversion, so demand 3 is upheld in the slice.
 use Prim.Native.Nat.{ℕ, suc, _+_, _-_, _≤_, _<_}
 use native.Mathlib.Numerals.{add-one}
 use native.Mathlib.Omega.{arith}
 use mathlib.Core.Path.{_≡_, refl, sym, ap, ap₂, _∙_}
+use mathlib.Core.Bool.{Bool, true, false, cond}
 use mathlib.Core.List.{List, [], _∷_, _++_, Option·toList}
 use mathlib.Core.Option.{Option, none, some}
 use lib.ListN.{length, getD, take, drop, take-append-drop, drop-of-length-le}
 use lib.Seq.{length-take-le, drop-cons, drop-drop}
+use lib.Dec.{eqb}
 use borrow.Author.Tests.{eq-eqb, ne-eqb}
+use Rattle.words.specs.Layout.{kindOf, payloadOf}
 use Rattle.fields.specs.declared.Answer.{Answer}
 use Rattle.encoding.specs.Calls.{EncodeReturned, encodeCall}
 use Rattle.checker.proofs.Encoded.{GoodEncoding, coded, encode-refused}
-use Rattle.calls.specs.Calls.{Call, afterCalls}
+use Rattle.calls.specs.Calls.{Call, stepAsked, runAsked, planAsked, inPlace, afterCalls}
 use Rattle.calls.specs.Demand.{UpheldFrom}
-use Rattle.calls.specs.Driver.{asked, driveCall, driveWord, driveWords, callsAsked, DrivesCalls, startOf, driveAll, Drives}
+use Rattle.calls.specs.Driver.{limitOf, sliceOf, asked, Driving, driveCall, driveWord, driveWords, callsAsked, DrivesCalls, startOf, driveAll, Drives}
 use Rattle.calls.specs.Slices.{drivingIn}
 use Rattle.calls.proofs.Upholding.{demand-rows}
 use Rattle.calls.proofs.Asking.{Made}
@@ -75,13 +78,37 @@ drivesCalls out d (w ∷ ws) =
     made none calls = refl
     made (some call) calls = refl
 
+-- none of which is a conversion
+asked-plain : (free target : List ℕ) (w : ℕ) (calls : List Call) → inPlace (Option·toList (asked free target w) ++ calls) ≡ inPlace calls
+unfolding asked inPlace Option·toList
+asked-plain free target w calls = go (eqb (kindOf w) 0) (eqb (length free) 0) (eqb (kindOf w) 1) (eqb (kindOf w) 2)
+  where
+    go : (a b c d : Bool)
+        → inPlace
+        (Option·toList
+        (cond a (cond b none (some stepAsked))
+        (cond c (some (runAsked (limitOf w) (take (sliceOf w) free))) (cond d (some (planAsked (take (payloadOf w) target))) none)))
+        ++ calls)
+        ≡ inPlace calls
+    go true true c d = refl
+    go true false c d = refl
+    go false b true d = refl
+    go false b false true = refl
+    go false b false false = refl
+
+pub asked-in-place : (out : List ℕ) (d : Driving) (ws : List ℕ) → inPlace (callsAsked out d ws) ≡ true
+unfolding callsAsked inPlace
+asked-in-place out d [] = refl
+asked-in-place out d (w ∷ ws) =
+    asked-plain (drop (length (d .state .derivation)) out) (d .target) w (callsAsked out (driveWord out d w) ws) ∙ asked-in-place out (driveWord out d w) ws
+
 -- so what the words leave upholds demand 3
 drive-upheld : (inst t : List ℕ) → GoodEncoding inst t → (out target ws : List ℕ)
     → let st = driveWords out (startOf inst t target) ws .state in
     UpheldFrom inst t (st .table) (st .derivation)
 drive-upheld inst t c out target ws =
     let start = startOf inst t target in
-    rw (drivesCalls out start ws) (demand-rows inst t c (callsAsked out start ws))
+    rw (drivesCalls out start ws) (demand-rows inst t c (callsAsked out start ws) (asked-in-place out start ws))
 
 -- ---- the whole call
 

@@ -2,7 +2,11 @@ pub mod Reaching
 pub mod Held
 pub mod Running
 pub mod Moving
+pub mod LastYear
+pub mod Going
 pub mod Upholding
+pub mod Demanding
+pub mod Most
 pub mod Accepting
 pub mod Leaving
 pub mod Asking

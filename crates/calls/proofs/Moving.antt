@@ -1,8 +1,8 @@
--- The invariant of a list of calls: the slice holds rows that the first rows reach by the derivation's words, each step on the next pair and with
--- room. A step call and a run go on by words of the same kind; a plan call leaves all as it is.
+-- The invariant of a list of calls without a conversion: the slice holds rows that the first rows reach by the derivation's words, each step on the
+-- next pair and with room. A step call and a run go on by words of the same kind; a plan call leaves all as it is.
 use Prim.Native.Nat.{ℕ, min}
 use mathlib.Core.Path.{_≡_, refl, _∙_}
-use mathlib.Core.Bool.{Bool, true, false, cond}
+use mathlib.Core.Bool.{Bool, true, false, cond, false≢true}
 use mathlib.Core.List.{List, [], _∷_, _++_}
 use mathlib.Core.Option.{Option, none, some}
 use lib.ListN.{length, take, drop}
@@ -24,7 +24,7 @@ use Rattle.checker.proofs.Encoded.{GoodEncoding, coded, coded-table}
 use Rattle.checker.proofs.Kept.{Takes}
 use Rattle.checker.proofs.Replaying.{Left, left-held}
 use Rattle.checker.proofs.Claims.{coded-takes, encoded-left}
-use Rattle.calls.specs.Calls.{Call, stepAsked, runAsked, planAsked, State, wordsOfStep, afterCall, afterCalls, started}
+use Rattle.calls.specs.Calls.{Call, stepAsked, runAsked, planAsked, sixAsked, fiveAsked, State, wordsOfStep, afterCall, afterCalls, inPlace, started}
 use Rattle.calls.specs.Demand.{EncodesExactly}
 use Rattle.calls.proofs.Reaching.{Reaches, still, onward, reaches-append, reaches-left}
 use Rattle.calls.proofs.Held.{held-rows, held-step, held-run}
@@ -62,7 +62,7 @@ module _ {len : ℕ} {ds : List ℕ} {es : List Entry} (a : Takes len ds es) whe
         → stepCall t′ ≡ stepReturns t′ (some (cond (ltb cap (length (resolve ds pr rs))) (refusing 12) (stepsTo pr (resolve ds pr rs))))
     step-left pr e = rw (held-step h, next-step (a .entries) cap pr l e)
 
-    step-moved : Moved len ds rs (stepCall t′ .table) (wordsOfStep (stepCall t′ .answer))
+    pub step-moved : Moved len ds rs (stepCall t′ .table) (wordsOfStep (stepCall t′ .answer))
     unfolding stepReturns wordsOfStep
     step-moved = go (nextPair ds rs) refl
       where
@@ -92,7 +92,7 @@ module _ {len : ℕ} {ds : List ℕ} {es : List Entry} (a : Takes len ds es) whe
           let made = ran len ds rs limit slice .made in
           rw (held-run h limit slice) (take-append-seam made (drop (length made) slice) ∙ ran-runs .made)
 
-      run-moved : Moved len ds rs (runCall t′ limit slice .table) (take (runCall t′ limit slice .answer .steps) (runCall t′ limit slice .slice))
+      pub run-moved : Moved len ds rs (runCall t′ limit slice .table) (take (runCall t′ limit slice .answer .steps) (runCall t′ limit slice .slice))
       run-moved = rw run-words (record { rows = ran len ds rs limit slice .rows; table = run-table; reaches = ran-runs .reaches })
 
   -- ---- the invariant, from rows that keep sizes and entries, and fit
@@ -104,23 +104,21 @@ module _ {len : ℕ} {ds : List ℕ} {es : List Entry} (a : Takes len ds es) whe
     pub moved-held : {t′ ws : List ℕ} (m : Moved len ds from t′ ws) → Held t′ len ds (m .rows)
     moved-held m = left-held a (moved-left m) (m .table)
 
-    call-moved : (st : State) (call : Call) → Moved len ds from (st .table) (st .derivation)
-        → Moved len ds from (afterCall st call .table) (afterCall st call .derivation)
-    unfolding afterCall
-    call-moved st stepAsked m = moved-on m (step-moved (moved-left m) (moved-held m))
-    call-moved st (runAsked limit slice) m = moved-on m (run-moved (moved-left m) (moved-held m) limit slice)
-    call-moved st (planAsked target) m = m
-
-    pub calls-moved : (st : State) (calls : List Call) → Moved len ds from (st .table) (st .derivation)
+    pub calls-moved : (st : State) (calls : List Call) → inPlace calls ≡ true → Moved len ds from (st .table) (st .derivation)
         → Moved len ds from (afterCalls st calls .table) (afterCalls st calls .derivation)
-    unfolding afterCalls
-    calls-moved st [] m = m
-    calls-moved st (call ∷ calls) m = calls-moved (afterCall st call) calls (call-moved st call m)
+    unfolding inPlace afterCalls afterCall
+    calls-moved st [] e m = m
+    calls-moved st (stepAsked ∷ calls) e m = calls-moved (afterCall st stepAsked) calls e (moved-on m (step-moved (moved-left m) (moved-held m)))
+    calls-moved st (runAsked limit slice ∷ calls) e m =
+        calls-moved (afterCall st (runAsked limit slice)) calls e (moved-on m (run-moved (moved-left m) (moved-held m) limit slice))
+    calls-moved st (planAsked target ∷ calls) e m = calls-moved st calls e m
+    calls-moved st (sixAsked target ∷ calls) e m = absurd (false≢true e)
+    calls-moved st (fiveAsked target ∷ calls) e m = absurd (false≢true e)
 
 -- from an encoding
-pub reached : (inst t : List ℕ) → GoodEncoding inst t → (calls : List Call)
+pub reached : (inst t : List ℕ) → GoodEncoding inst t → (calls : List Call) → inPlace calls ≡ true
     → let st = afterCalls (started inst t) calls in
     Moved (length t) (sizesOf inst) (encodedRows inst) (st .table) (st .derivation)
-reached inst t c calls =
-    calls-moved (coded-takes inst t c) (encoded-left inst t c) (started inst t) calls
+reached inst t c calls e =
+    calls-moved (coded-takes inst t c) (encoded-left inst t c) (started inst t) calls e
     (record { rows = encodedRows inst; table = coded-table inst t c; reaches = still })

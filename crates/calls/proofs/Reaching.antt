@@ -1,8 +1,8 @@
--- Steps on the next pair whose rows all fit: what a list of calls makes of rows. Such steps are those of the derivation, keep sizes and entries,
--- and are replayed to the end, since the step word of every pair reads back.
+-- Steps on the next pair: what a list of calls makes of rows. They keep sizes and entries. Those whose rows all fit, as they do in one slice, are
+-- replayed to the end, since the step word of every pair reads back.
 use Prim.Native.Nat.{ℕ, suc, _+_, _≤_, _<_}
 use native.Mathlib.Omega.{arith}
-use mathlib.Core.Path.{_≡_}
+use mathlib.Core.Path.{_≡_, ap, _∙_}
 use mathlib.Core.List.{List, [], _∷_, _++_}
 use mathlib.Core.Option.{some}
 use lib.ListN.{length}
@@ -15,11 +15,28 @@ use Rattle.words.specs.Layout.{kindOf}
 use Rattle.words.proofs.Reading.{read-step}
 use Rattle.words.proofs.Inverse.{step-kind}
 use Rattle.fields.specs.Entries.{FieldSizes, Entries}
-use Rattle.stepping.specs.Step.{stepsTo, pairWord}
-use Rattle.checker.specs.Replay.{namedPair, replayOn, replayWord, replayNext, replay}
-use Rattle.checker.proofs.Kept.{step-keeps}
+use Rattle.stepping.specs.Step.{stepsTo, pairWord, wordPair}
+use Rattle.checker.specs.Replay.{permittedPair, namedPair, replayOn, replayWord, replayNext, replay}
+use Rattle.checker.proofs.Kept.{Keeps, step-keeps}
 use Rattle.checker.proofs.Replaying.{Left, allowed-room, permitted-passes}
 use Rattle.calls.specs.Calls.{Derives}
+
+-- ---- whether the rows fit or not
+
+module _ {ds : List ℕ} where
+  pub derives-append : {rs rs′ rs″ : List Row} {ws vs : List ℕ} → Derives ds rs ws rs′ → Derives ds rs′ vs rs″ → Derives ds rs (ws ++ vs) rs″
+  derives-append Derives.stop b = b
+  derives-append (Derives.step pr e a) b = Derives.step pr e (derives-append a b)
+
+  pub derives-steps : {rs rs′ : List Row} {ws : List ℕ} → Derives ds rs ws rs′ → Steps ds rs (length ws) rs′
+  derives-steps Derives.stop = Steps.stop
+  derives-steps (Derives.step pr e a) = Steps.step pr e (derives-steps a)
+
+  pub derives-keeps : {es : List Entry} {rs rs′ : List Row} {ws : List ℕ} → Keeps ds es rs → Derives ds rs ws rs′ → Keeps ds es rs′
+  derives-keeps k Derives.stop = k
+  derives-keeps {rs = rs} k (Derives.step pr e a) = derives-keeps (step-keeps k pr (next-permitted ds rs pr e)) a
+
+-- ---- where they all fit
 
 pub data Reaches (ds : List ℕ) (cap : ℕ) : List Row → List ℕ → List Row → Type 0 where
   still : {rs : List Row} → Reaches ds cap rs [] rs
@@ -35,10 +52,6 @@ pub reaches-derives : {ds : List ℕ} {cap : ℕ} {rs rs′ : List Row} {ws : Li
 reaches-derives still = Derives.stop
 reaches-derives (onward pr e f a) = Derives.step pr e (reaches-derives a)
 
-pub reaches-steps : {ds : List ℕ} {cap : ℕ} {rs rs′ : List Row} {ws : List ℕ} → Reaches ds cap rs ws rs′ → Steps ds rs (length ws) rs′
-reaches-steps still = Steps.stop
-reaches-steps (onward pr e f a) = Steps.step pr e (reaches-steps a)
-
 module _ {ds : List ℕ} {es : List Entry} {cap : ℕ} where
   -- one step on the next pair
   pub next-left : {rs : List Row} (pr : Pair) → Left ds es cap rs → nextPair ds rs ≡ some pr → length (resolve ds pr rs) ≤ cap
@@ -50,28 +63,35 @@ module _ {ds : List ℕ} {es : List Entry} {cap : ℕ} where
   reaches-left l (onward pr e f a) = reaches-left (next-left pr l e f) a
 
   module _ (s : FieldSizes ds) (n : Entries ds 0 es) (small : cap ≤ 4096) where
-    -- the step word of the next pair is replayed
-    word-replayed : {rs : List Row} (pr : Pair) → Left ds es cap rs → nextPair ds rs ≡ some pr
-        → length (resolve ds pr rs) ≤ cap
-        → replayWord ds cap rs (pairWord pr) ≡ stepsTo pr (resolve ds pr rs)
-    unfolding replayWord namedPair replayOn
-    word-replayed {rs} pr l e f =
+    -- the step word of the next pair is of its kind, and names it
+    pub next-named : (rs : List Row) (pr : Pair) → nextPair ds rs ≡ some pr → length rs ≤ cap → (kindOf (pairWord pr) ≡ 7) × (wordPair (pairWord pr) ≡ pr)
+    next-named rs pr e fits =
         let m = next-permitted ds rs pr e in
         let t = s .most in
         let v : pr .variable < 16 = omega (arith, m .known) in
-        let j : pr .second < 4096 = omega (arith, m .inTable, l .fits) in
+        let j : pr .second < 4096 = omega (arith, m .inTable) in
         let i : pr .first < 4096 = omega (arith, m .ordered) in
         let (k, a, b, c) =
         step-kind (pairWord pr) (pr .variable) (pr .first) (pr .second) (read-step (pr .variable) (pr .first) (pr .second) v i j) in
-        rw (
-          eq-eqb (kindOf (pairWord pr)) 7 k,
-          a,
-          b,
-          c,
-          permitted-passes ds rs pr m,
-          allowed-room n cap (l .keeps) pr m,
-          le-ltb cap (length (resolve ds pr rs)) f,
-        )
+        (k, λ x. record { variable = a x; first = b x; second = c x })
+
+    -- so it is the pair that a replay finds
+    pub next-found : (rs : List Row) (pr : Pair) → nextPair ds rs ≡ some pr → length rs ≤ cap → namedPair ds rs (pairWord pr) ≡ some pr
+    unfolding namedPair
+    next-found rs pr e fits =
+        let (k, named) = next-named rs pr e fits in
+        rw (eq-eqb (kindOf (pairWord pr)) 7 k) (ap (permittedPair ds rs) named ∙ permitted-passes ds rs pr (next-permitted ds rs pr e))
+
+    -- and that is replayed
+    pub word-replayed : {rs : List Row} (pr : Pair) → Left ds es cap rs → nextPair ds rs ≡ some pr
+        → length (resolve ds pr rs) ≤ cap
+        → replayWord ds cap rs (pairWord pr) ≡ stepsTo pr (resolve ds pr rs)
+    unfolding replayWord replayOn
+    word-replayed {rs} pr l e f =
+        let m = next-permitted ds rs pr e in
+        ap (replayOn ds cap rs) (next-found rs pr e (l .fits))
+        ∙ allowed-room n cap (l .keeps) pr m
+        ∙ rw (le-ltb cap (length (resolve ds pr rs)) f)
 
     pub reaches-replayed : {rs rs′ : List Row} {ws : List ℕ} (k : ℕ) → Left ds es cap rs → Reaches ds cap rs ws rs′
         → replay ds cap rs k ws ≡ record { number = 0; steps = k + length ws; rows = rs′ }

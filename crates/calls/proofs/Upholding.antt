@@ -1,4 +1,5 @@
--- Demand 3: its sentences for rows reached by the invariant's steps; completions and forbidden combinations in these, and in the table that the checker leaves.
+-- Demand 3: its sentences for rows that steps lead to, and so for every list of calls without a conversion; completions and forbidden combinations in
+-- these, and in the table that the checker leaves.
 use Prim.Native.Nat.{ℕ, _<_, _≤_, min}
 use native.Mathlib.Omega.{arith}
 use mathlib.Core.Path.{_≡_, refl, sym, ap, _∙_}
@@ -19,28 +20,32 @@ use Rattle.wcsp.proofs.Bound.{stepsBounded, bound-fixed}
 use Rattle.wcsp.proofs.Completeness.{optimality}
 use Rattle.wcsp.proofs.Least.{best-from}
 use Rattle.fields.specs.Limits.{forbiddenCost}
+use Rattle.fields.specs.Entries.{FieldSizes}
 use Rattle.fields.specs.Forbidden.{hasForbidden, AllForbidden, AllForbiddenFrom}
 use Rattle.fields.proofs.Costs.{entries-costs}
 use Rattle.fields.proofs.Forbidden.{forbiddenIsDear, least-forbids}
 use Rattle.rows.specs.Raw.{maxWeight}
-use Rattle.table.specs.Layout.{capacity, tableWords}
-use Rattle.table.specs.Meaning.{ownRows}
+use Rattle.table.specs.Form.{TableForm}
+use Rattle.table.specs.Raws.{standardForm}
+use Rattle.table.specs.Layout.{capacity, tableWordsIn, tableWords}
+use Rattle.table.specs.Meaning.{ownRowsIn, ownRows}
+use Rattle.table.specs.Valid.{validTableIn}
 use Rattle.table.proofs.Own.{Held}
 use Rattle.stepping.specs.Step.{Stepping, refusing, stepsTo, pairWord}
 use Rattle.resolution.specs.Calls.{stepReturns, stepCall, runCall}
 use Rattle.resolution.specs.Numbers.{stepNumber, stepFields, outcomeField, runNumber}
 use Rattle.checker.specs.Theorems.{Best}
 use Rattle.checker.proofs.Encoded.{GoodEncoding, coded}
-use Rattle.checker.proofs.Kept.{Takes, keeps-below}
+use Rattle.checker.proofs.Kept.{Takes, Keeps, keeps-below}
 use Rattle.checker.proofs.Replaying.{Left, left-held}
 use Rattle.checker.proofs.Claims.{coded-takes, encoded-left, replayed-ended, check-held}
-use Rattle.calls.specs.Calls.{Call, afterCalls, started}
+use Rattle.calls.specs.Calls.{Call, inPlace, afterCalls, started, Derives}
 use Rattle.calls.specs.LastFixed.{CompletesBest, CheckedCompletes}
 use Rattle.calls.specs.Forbids.{ForbidsExactly, CheckedForbids}
-use Rattle.calls.specs.Demand.{StepGives, RunEnds, noneLeft, limitMet, noRoom, Upheld, UpheldFrom, Demand3}
-use Rattle.calls.proofs.Reaching.{reaches-derives, reaches-steps, reaches-left}
+use Rattle.calls.specs.Demand.{StepGives, RunEnds, noneLeft, limitMet, noRoom, Kept, Upheld, UpheldFrom, Demand3InPlace}
+use Rattle.calls.proofs.Reaching.{derives-steps, derives-keeps, reaches-derives, reaches-left}
 use Rattle.calls.proofs.Held.{held-rows, held-run, plan-short, plan-early, plan-heavy, plan-written, complete-written}
-use Rattle.calls.proofs.Moving.{Moved, step-done, step-left, ran, ran-runs, run-table, moved-left, moved-held, reached}
+use Rattle.calls.proofs.Moving.{step-done, step-left, ran, ran-runs, run-table, moved-left, moved-held, reached}
 
 -- ---- what a run's ending says of its number and its field
 
@@ -74,6 +79,31 @@ not-done t false pr rs e = let z : _≡_ {A = ℕ} 0 1 = ap first e in omega ari
     first [] = 0
     first (x ∷ xs) = x
 
+-- ---- of a table of either form
+
+module _ {ds : List ℕ} {es : List Entry} where
+  pub kept-rows : (f : TableForm) {from : List Row} {t′ ws : List ℕ} → Keeps ds es from → validTableIn f t′ ≡ true
+      → t′ ≡ tableWordsIn f (length t′) ds (ownRowsIn f t′) → Derives ds from ws (ownRowsIn f t′) → Kept f ds es from t′ ws
+  kept-rows f {from} {t′} {ws} first v e d =
+      let k = derives-keeps first d in
+      record {
+        valid = v;
+        words = e;
+        derived = d;
+        conserved = k .weights;
+        below = keeps-below k;
+        bounded = stepsBounded ds from (ownRowsIn f t′) (length ws) (first .valid) (derives-steps d);
+        fixed = bound-fixed ds es from (first .weights);
+      }
+
+  -- with no pair left
+  pub best-rows : {rs : List Row} → FieldSizes ds → Keeps ds es rs → nextPair ds rs ≡ none → Best ds es (rebuilt ds rs) (emptyWeight (length ds) rs)
+  best-rows {rs} s k e =
+      let o : Optimal ds rs = optimality ds rs (s .positive) (k .valid) e in
+      record { inRange = o .inRange; attained = sym (k .weights (rebuilt ds rs) (o .inRange)) ∙ o .attained; least = keeps-below k }
+
+-- ---- of a table of six-word rows
+
 module _ {len : ℕ} {ds : List ℕ} {es : List Entry} (a : Takes len ds es) where
   abbrev cap : ℕ
   cap = capacity len (length ds)
@@ -81,14 +111,8 @@ module _ {len : ℕ} {ds : List ℕ} {es : List Entry} (a : Takes len ds es) whe
   module _ {t′ : List ℕ} {rs : List Row} (l : Left ds es cap rs) (h : Held t′ len ds rs) where
     -- ---- with no pair left
 
-    best-rows : nextPair ds rs ≡ none → Best ds es (rebuilt ds rs) (emptyWeight (length ds) rs)
-    best-rows e =
-        let o : Optimal ds rs = optimality ds rs (a .sizes .positive) (l .keeps .valid) e in
-        record {
-          inRange = o .inRange;
-          attained = sym (l .keeps .weights (rebuilt ds rs) (o .inRange)) ∙ o .attained;
-          least = keeps-below (l .keeps);
-        }
+    best : nextPair ds rs ≡ none → Best ds es (rebuilt ds rs) (emptyWeight (length ds) rs)
+    best e = best-rows (a .sizes) (l .keeps) e
 
     completions-best : nextPair ds rs ≡ none → (k : ℕ) (fixed : List ℕ) → k ≤ length ds → InRange (drop k ds) fixed
         → BestFrom ds es k fixed (rebuiltOver ds rs k fixed) (tailWeight k fixed rs)
@@ -103,11 +127,11 @@ module _ {len : ℕ} {ds : List ℕ} {es : List Entry} (a : Takes len ds es) whe
     -- by the rebuilt assignment, whose cost is the empty row's weight, and by what no cost is below
     heavy-all : nextPair ds rs ≡ none → (forbiddenCost ≤ emptyWeight (length ds) rs) ↔ AllForbidden ds es
     heavy-all e =
-        let b = best-rows e in
+        let b = best e in
         least-forbids (a .entries) (InRange ds) (emptyWeight (length ds) rs) (rebuilt ds rs) (b .inRange) (b .attained) (b .least)
 
     light-free : nextPair ds rs ≡ none → emptyWeight (length ds) rs < forbiddenCost → hasForbidden es (rebuilt ds rs) ≡ false
-    light-free e w = sym (forbiddenIsDear ds 0 es (a .entries) (rebuilt ds rs)) ∙ lt-leb forbiddenCost (cost es (rebuilt ds rs)) (omega (arith, best-rows e .attained))
+    light-free e w = sym (forbiddenIsDear ds 0 es (a .entries) (rebuilt ds rs)) ∙ lt-leb forbiddenCost (cost es (rebuilt ds rs)) (omega (arith, best e .attained))
 
     heavy-completions : nextPair ds rs ≡ none → (k : ℕ) (fixed : List ℕ) → k ≤ length ds → InRange (drop k ds) fixed
         → (forbiddenCost ≤ tailWeight k fixed rs) ↔ AllForbiddenFrom ds es k fixed
@@ -179,48 +203,39 @@ module _ {len : ℕ} {ds : List ℕ} {es : List Entry} (a : Takes len ds es) whe
       run-numbers : let k = runNumber (runCall t′ limit slice .answer) in (k ≡ 0) ⊎ (k ≡ 12)
       run-numbers = rw (held-run h limit slice) (ends-number (ran-runs a l h limit slice .ends))
 
-  module _ {from : List Row} (first : Left ds es cap from) where
-    pub upheld : {t′ ws : List ℕ} → Moved len ds from t′ ws → Upheld ds es from t′ ws
-    upheld {t′} {ws} m =
-        let rs = m .rows in
-        let l = moved-left a first m in
-        let k = l .keeps in
-        let h = moved-held a first m in
+    pub upheld : {from : List Row} {ws : List ℕ} → Keeps ds es from → Derives ds from ws rs → Upheld ds es from t′ ws
+    upheld first d =
         record {
-          valid = h .valid;
-          words = rw (h .long, h .rows) (h .words);
-          derived = rw (h .rows) (reaches-derives (m .reaches));
-          conserved = rw (h .rows) (k .weights);
-          below = rw (h .rows) (keeps-below k);
-          bounded = stepsBounded ds from rs (length ws) (first .keeps .valid) (reaches-steps (m .reaches));
-          fixed = bound-fixed ds es from (first .keeps .weights);
-          stepMade = rw (h .long, h .rows) (step-made l h);
-          stepFull = rw (h .long, h .rows) (step-full l h);
-          stepDone = rw (h .rows) (step-none l h);
-          doneOnly = rw (h .rows) (done-only l h);
-          run = rw (h .long) (run-ends l h);
-          runBound = run-bound l h;
-          runDone = run-done l h;
-          runNumbers = run-numbers l h;
+          kept = kept-rows standardForm first (h .valid) (rw (h .long, h .rows) (h .words)) (rw (h .rows) d);
+          stepMade = rw (h .long, h .rows) (step-made);
+          stepFull = rw (h .long, h .rows) (step-full);
+          stepDone = rw (h .rows) (step-none);
+          doneOnly = rw (h .rows) (done-only);
+          run = rw (h .long) (run-ends);
+          runBound = run-bound;
+          runDone = run-done;
+          runNumbers = run-numbers;
           planShort = plan-short h;
           planEarly = rw (h .rows) (plan-early h);
           planForbidden = rw (h .rows) (plan-heavy h);
           planWritten = rw (h .rows) (plan-written h);
-          best = rw (h .rows) (best-rows l h);
-          completed = completed-rows l h;
-          forbidden = rw (h .rows) (forbidden-rows l h);
+          best = rw (h .rows) (best);
+          completed = completed-rows;
+          forbidden = rw (h .rows) (forbidden-rows);
         }
 
-pub demand-rows : (inst t : List ℕ) → GoodEncoding inst t → (calls : List Call)
+pub demand-rows : (inst t : List ℕ) → GoodEncoding inst t → (calls : List Call) → inPlace calls ≡ true
     → let st = afterCalls (started inst t) calls in
     UpheldFrom inst t (st .table) (st .derivation)
-demand-rows inst t c calls =
+demand-rows inst t c calls e =
     let a = coded-takes inst t c in
-    let m = reached inst t c calls in
-    (moved-held a (encoded-left inst t c) m .long, upheld a (encoded-left inst t c) m)
+    let first = encoded-left inst t c in
+    let m = reached inst t c calls e in
+    let h = moved-held a first m in
+    (h .long, upheld a (moved-left a first m) h (first .keeps) (reaches-derives (m .reaches)))
 
-pub demand3 : Demand3
-demand3 inst t calls e = demand-rows inst t (coded inst t e) calls
+pub demand3InPlace : Demand3InPlace
+demand3InPlace inst t calls e p = demand-rows inst t (coded inst t e) calls p
 
 -- ---- the table that the checker leaves
 

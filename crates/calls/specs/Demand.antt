@@ -1,5 +1,5 @@
--- Demand 3 as one statement: a record whose fields are its sentences, and document 02's of completions and forbidden combinations, for every accepted
--- instance, every table that takes its encoding and every list of calls.
+-- Demand 3 as one statement: records whose fields are its sentences, and document 02's of completions, forbidden combinations and tables from last
+-- year, for every accepted instance, every table of either form that comes from its encoding and every list of calls.
 use Prim.Native.Nat.{ℕ, _≤_, _<_, min}
 use mathlib.Core.Path.{_≡_}
 use mathlib.Core.Logic.{_⊎_, _↔_}
@@ -14,17 +14,22 @@ use Rattle.wcsp.specs.Resolve.{Pair, nextPair, resolve}
 use Rattle.wcsp.specs.Rebuild.{rebuilt}
 use Rattle.wcsp.specs.Bound.{rowBound, stepBound}
 use Rattle.fields.specs.Limits.{forbiddenCost}
-use Rattle.input.specs.Instance.{sizesOf, entriesOf}
-use Rattle.table.specs.Layout.{tableWords, capacity}
-use Rattle.table.specs.Meaning.{ownRows}
-use Rattle.table.specs.Valid.{validTable}
+use Rattle.fields.specs.Answers.{refused, good}
+use Rattle.input.specs.Instance.{instanceFault, sizesOf, entriesOf}
+use Rattle.table.specs.Form.{TableForm}
+use Rattle.table.specs.Raws.{standardForm}
+use Rattle.table.specs.Layout.{rowsAt, tableWordsIn, tableWords, capacity}
+use Rattle.table.specs.Meaning.{tableSizes, ownRowsIn, ownRows}
+use Rattle.table.specs.Valid.{validTableIn, validTable}
+use Rattle.conversion.specs.Five.{fiveForm}
+use Rattle.conversion.specs.Calls.{toSixCall}
 use Rattle.encoding.specs.Calls.{encodedRows, encodeCall}
 use Rattle.stepping.specs.Step.{pairWord}
 use Rattle.resolution.specs.Calls.{stepCall, runCall}
 use Rattle.resolution.specs.Numbers.{stepNumber, stepFields, outcomeField, runNumber}
 use Rattle.assignment.specs.Calls.{planCall}
 use Rattle.checker.specs.Theorems.{Best}
-use Rattle.calls.specs.Calls.{Call, started, afterCalls, Derives}
+use Rattle.calls.specs.Calls.{Call, State, inPlace, started, afterCalls, Derives}
 use Rattle.calls.specs.LastFixed.{CompletesBest}
 use Rattle.calls.specs.Forbids.{ForbidsExactly}
 
@@ -47,18 +52,22 @@ pub data RunEnds (ds : List ℕ) (cap most steps : ℕ) (rs : List Row) : (numbe
   -- 12: with steps still to make, and a pair left whose finished step needs more rows than the capacity
   noRoom : steps < most → (pr : Pair) → nextPair ds rs ≡ some pr → cap < length (resolve ds pr rs) → RunEnds ds cap most steps rs 12 2
 
--- what holds of the table t′ for these sizes and entries, after steps with the words ws that started from these rows
-pub record Upheld (ds : List ℕ) (es : List Entry) (from : List Row) (t′ ws : List ℕ) : Type 0 where
+-- what holds of a table t′ of one form for these sizes and entries, after steps with the words ws that started from these rows
+pub record Kept (f : TableForm) (ds : List ℕ) (es : List Entry) (from : List Row) (t′ ws : List ℕ) : Type 0 where
   -- the table is a valid one of these sizes, and its rows are those of Steps: each step made was the next one
-  pub valid : validTable t′ ≡ true
-  pub words : t′ ≡ tableWords (length t′) ds (ownRows t′)
-  pub derived : Derives ds from ws (ownRows t′)
+  pub valid : validTableIn f t′ ≡ true
+  pub words : t′ ≡ tableWordsIn f (length t′) ds (ownRowsIn f t′)
+  pub derived : Derives ds from ws (ownRowsIn f t′)
   -- the falsified weight equals the cost, for every assignment; so the empty row's weight is never above any cost
-  pub conserved : (p : List ℕ) → InRange ds p → falsified p (ownRows t′) ≡ cost es p
-  pub below : (p : List ℕ) → InRange ds p → emptyWeight (length ds) (ownRows t′) ≤ cost es p
+  pub conserved : (p : List ℕ) → InRange ds p → falsified p (ownRowsIn f t′) ≡ cost es p
+  pub below : (p : List ℕ) → InRange ds p → emptyWeight (length ds) (ownRowsIn f t′) ≤ cost es p
   -- no more steps than a number of the rows that they started from, which is fixed by sizes and entries
   pub bounded : length ws ≤ rowBound ds from
   pub fixed : rowBound ds from ≡ stepBound ds es
+
+-- what holds then of a table of six-word rows: all this, and what further calls give
+pub record Upheld (ds : List ℕ) (es : List Entry) (from : List Row) (t′ ws : List ℕ) : Type 0 where
+  pub kept : Kept standardForm ds es from t′ ws
   -- a further step call: while a pair is left the step on it is made, or only 12 stops it
   pub stepMade : (pr : Pair) → nextPair ds (ownRows t′) ≡ some pr
       → let rs′ = resolve ds pr (ownRows t′) in
@@ -101,17 +110,54 @@ pub record Upheld (ds : List ℕ) (es : List Entry) (from : List Row) (t′ ws :
   -- and the empty row is at least as heavy as a forbidden entry exactly if every assignment has a forbidden combination; else the rebuilt one has none
   pub forbidden : nextPair ds (ownRows t′) ≡ none → ForbidsExactly ds es t′
 
--- the table t′ and the derivation ws that calls left of an encoding of inst in t: the slice is as long, and the steps started from the encoding
-abbrev pub UpheldFrom : List ℕ → List ℕ → List ℕ → List ℕ → Type 0
-UpheldFrom inst t t′ ws = (length t′ ≡ length t) × Upheld (sizesOf inst) (entriesOf inst) (encodedRows inst) t′ ws
+-- and of one of five-word rows: converting it gives 10 for a short target, 12 without room, else the table of the same rows
+pub record UpheldFive (ds : List ℕ) (es : List Entry) (from : List Row) (t′ ws : List ℕ) : Type 0 where
+  pub kept : Kept fiveForm ds es from t′ ws
+  pub sixShort : (target : List ℕ) → length target < rowsAt (length ds) → toSixCall t′ target ≡ record { answer = refused 10; target = target }
+  pub sixFull : (target : List ℕ) → rowsAt (length ds) ≤ length target → room ds target < length (ownRowsIn fiveForm t′)
+      → toSixCall t′ target ≡ record { answer = refused 12; target = target }
+  pub sixMade : (target : List ℕ) → rowsAt (length ds) ≤ length target → length (ownRowsIn fiveForm t′) ≤ room ds target
+      → toSixCall t′ target
+      ≡ record { answer = good (length (ownRowsIn fiveForm t′)); target = tableWords (length target) ds (ownRowsIn fiveForm t′) }
 
--- a good encoding wrote, row for row, the table of the encoding
+-- a table, and the derivation that led to it: of one form or of the other, and what holds in each
+pub record UpheldEither (ds : List ℕ) (es : List Entry) (from : List Row) (st : State) : Type 0 where
+  pub either : (validTable (st .table) ≡ true) ⊎ (validTableIn fiveForm (st .table) ≡ true)
+  pub six : validTable (st .table) ≡ true → Upheld ds es from (st .table) (st .derivation)
+  pub five : validTableIn fiveForm (st .table) ≡ true → UpheldFive ds es from (st .table) (st .derivation)
+
+-- what calls left of an encoding of inst
+abbrev pub UpheldOf : List ℕ → State → Type 0
+UpheldOf inst st = UpheldEither (sizesOf inst) (entriesOf inst) (encodedRows inst) st
+
+-- a table of form f with a derivation that leads to it from the encoding of an accepted instance: an encoding just made, or a half-resolved
+-- table that was kept, from this year or the last
+pub record ComesIn (f : TableForm) (inst : List ℕ) (st : State) : Type 0 where
+  pub accepted : instanceFault inst ≡ 0
+  pub valid : validTableIn f (st .table) ≡ true
+  pub sizes : tableSizes (st .table) ≡ sizesOf inst
+  pub derived : Derives (sizesOf inst) (encodedRows inst) (st .derivation) (ownRowsIn f (st .table))
+
+abbrev pub Comes : List ℕ → State → Type 0
+Comes inst st = ComesIn standardForm inst st ⊎ ComesIn fiveForm inst st
+
+-- demand 3, for every accepted instance, every table of either form whose rows are those of Steps, and every list of calls
+abbrev pub Demand3 : Type 0
+Demand3 = (inst : List ℕ) (st : State) (calls : List Call) → Comes inst st → UpheldOf inst (afterCalls st calls)
+
+-- a good encoding wrote, row for row, the table of the encoding; so it is such a table, with no step yet
 abbrev pub EncodesExactly : Type 0
 EncodesExactly = (inst t : List ℕ) → encodeCall inst t .answer .number ≡ 0
     → encodeCall inst t .table ≡ tableWords (length t) (sizesOf inst) (encodedRows inst)
 
--- demand 3, for every accepted instance, every table length that takes its encoding, and every list of calls
-abbrev pub Demand3 : Type 0
-Demand3 = (inst t : List ℕ) (calls : List Call) → encodeCall inst t .answer .number ≡ 0
+abbrev pub EncodedComes : Type 0
+EncodedComes = (inst t : List ℕ) → encodeCall inst t .answer .number ≡ 0 → Comes inst (started inst t)
+
+-- without a conversion the table stays in its slice, of six-word rows: the table t′ and the derivation ws that calls left of an encoding of inst in t
+abbrev pub UpheldFrom : List ℕ → List ℕ → List ℕ → List ℕ → Type 0
+UpheldFrom inst t t′ ws = (length t′ ≡ length t) × Upheld (sizesOf inst) (entriesOf inst) (encodedRows inst) t′ ws
+
+abbrev pub Demand3InPlace : Type 0
+Demand3InPlace = (inst t : List ℕ) (calls : List Call) → encodeCall inst t .answer .number ≡ 0 → inPlace calls ≡ true
     → let st = afterCalls (started inst t) calls in
     UpheldFrom inst t (st .table) (st .derivation)

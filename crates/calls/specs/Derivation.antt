@@ -1,22 +1,71 @@
--- The derivation that the planner makes is one that the checker accepts: from the same instance, in a work table of the same length.
-use Prim.Native.Nat.{ℕ}
+-- The derivation that the planner makes is one that the checker accepts: from the same instance, in a work table with room for the most rows that
+-- it ever had, and so, where no table was converted on the way, in one of the same length.
+use Prim.Native.Nat.{ℕ, _≤_, _<_, max}
 use mathlib.Core.Path.{_≡_}
-use mathlib.Core.List.{List}
+use mathlib.Core.Bool.{true}
+use mathlib.Core.List.{List, [], _∷_}
 use mathlib.Core.Option.{none}
 use lib.ListN.{length, take}
-use Rattle.wcsp.specs.Row.{emptyWeight}
-use Rattle.wcsp.specs.Resolve.{nextPair}
-use Rattle.input.specs.Instance.{sizesOf}
+use Rattle.wcsp.specs.Row.{Row, emptyWeight}
+use Rattle.wcsp.specs.Resolve.{nextPair, resolve}
+use Rattle.wcsp.specs.Rebuild.{rebuilt}
+use Rattle.input.specs.Instance.{instanceFault, sizesOf}
+use Rattle.table.specs.Layout.{rowsAt, capacity}
 use Rattle.table.specs.Meaning.{ownRows}
-use Rattle.encoding.specs.Calls.{encodeCall}
+use Rattle.table.specs.Valid.{validTable}
+use Rattle.encoding.specs.Calls.{encodedRows, encodeCall}
+use Rattle.stepping.specs.Step.{wordPair}
 use Rattle.assignment.specs.Calls.{tableAssignment}
 use Rattle.checker.specs.Calls.{checkCall}
-use Rattle.calls.specs.Calls.{Call, started, afterCalls}
+use Rattle.calls.specs.Calls.{Call, State, inPlace, started, afterCalls, Derives}
+use Rattle.calls.specs.Demand.{Comes}
 use Rattle.calls.specs.Driver.{driveAll}
 
--- once no pair is left: every step of the derivation is replayed, and the claim of the rebuilt assignment with the empty row's weight holds
+-- "the most rows the derivation ever had": from these rows on, by the pairs that its words name. A step counts when it is finished.
+unfoldable pub mostRows : List ℕ → List Row → List ℕ → ℕ
+mostRows ds rs [] = length rs
+mostRows ds rs (w ∷ ws) = max (length rs) (mostRows ds (resolve ds (wordPair w) rs) ws)
+
+-- a work table takes the front of a table over the instance's variables
+abbrev pub Fronts : List ℕ → List ℕ → Type 0
+Fronts inst work = rowsAt (length (sizesOf inst)) ≤ length work
+
+-- the most rows that the steps from the encoding on ever had, and those that a work table takes
+abbrev pub needs : List ℕ → List ℕ → ℕ
+needs inst ws = mostRows (sizesOf inst) (encodedRows inst) ws
+
+abbrev pub takes : List ℕ → List ℕ → ℕ
+takes inst work = capacity (length work) (length (sizesOf inst))
+
+-- every step is replayed, and the claim of the assignment that these rows give, with their empty row's weight, holds
+abbrev pub Accepts : List ℕ → List ℕ → List Row → List ℕ → Type 0
+Accepts inst ws rs work =
+    checkCall inst ws (rebuilt (sizesOf inst) rs) (emptyWeight (length (sizesOf inst)) rs) work .answer ≡ record { number = 0; steps = length ws }
+
+-- by whatever calls and in whatever slices the steps were made, once no pair is left
+abbrev pub AcceptedWithRoom : Type 0
+AcceptedWithRoom = (inst ws : List ℕ) (rs : List Row) → instanceFault inst ≡ 0 → Derives (sizesOf inst) (encodedRows inst) ws rs
+    → nextPair (sizesOf inst) rs ≡ none
+    → (work : List ℕ) → Fronts inst work → needs inst ws ≤ takes inst work → Accepts inst ws rs work
+
+-- and with less room the check ends with 12, whatever is claimed
+abbrev pub FullWithoutRoom : Type 0
+FullWithoutRoom = (inst ws : List ℕ) (rs : List Row) → instanceFault inst ≡ 0 → Derives (sizesOf inst) (encodedRows inst) ws rs
+    → (plan : List ℕ) (claimed : ℕ) (work : List ℕ) → Fronts inst work → takes inst work < needs inst ws
+    → checkCall inst ws plan claimed work .answer .number ≡ 12
+
+-- so after every list of calls, conversions among them
+abbrev pub ConvertedAccepted : Type 0
+ConvertedAccepted = (inst : List ℕ) (st : State) (calls : List Call) → Comes inst st
+    → let end = afterCalls st calls in
+    validTable (end .table) ≡ true → nextPair (sizesOf inst) (ownRows (end .table)) ≡ none
+    → (work : List ℕ) → Fronts inst work → needs inst (end .derivation) ≤ takes inst work
+    → checkCall inst (end .derivation) (tableAssignment (end .table)) (emptyWeight (length (sizesOf inst)) (ownRows (end .table))) work .answer
+    ≡ record { number = 0; steps = length (end .derivation) }
+
+-- and after one without a conversion in every work table as long as the slice that was encoded in
 abbrev pub DerivationAccepted : Type 0
-DerivationAccepted = (inst t : List ℕ) (calls : List Call) → encodeCall inst t .answer .number ≡ 0
+DerivationAccepted = (inst t : List ℕ) (calls : List Call) → encodeCall inst t .answer .number ≡ 0 → inPlace calls ≡ true
     → let st = afterCalls (started inst t) calls in
     nextPair (sizesOf inst) (ownRows (st .table)) ≡ none
     → (work : List ℕ) → length work ≡ length t

@@ -11,7 +11,7 @@ use Rattle.words.specs.Layout.{kindOf, payloadOf}
 use Rattle.encoding.specs.Calls.{encodeCall}
 use Rattle.assignment.specs.Calls.{planCall}
 use Rattle.calls.specs.declared.Driven.{Driven}
-use Rattle.calls.specs.Calls.{Call, stepAsked, runAsked, planAsked, State, afterCall, afterCalls, started}
+use Rattle.calls.specs.Calls.{Call, stepAsked, runAsked, planAsked, sixAsked, fiveAsked, State, afterCall, afterCalls, started}
 use Rattle.calls.specs.Demand.{UpheldFrom}
 
 abbrev pub limitOf : ℕ → ℕ
@@ -36,6 +36,8 @@ unfoldable pub targetAfter : List ℕ → List ℕ → Call → List ℕ
 targetAfter t target stepAsked = target
 targetAfter t target (runAsked limit slice) = target
 targetAfter t target (planAsked lent) = planCall t lent .target ++ drop (length lent) target
+targetAfter t target (sixAsked lent) = target
+targetAfter t target (fiveAsked lent) = target
 
 unfoldable pub driveCall : Driving → Option Call → Driving
 unfolding targetAfter

@@ -2,6 +2,7 @@
 pub mod Calls
 pub mod LastFixed
 pub mod Forbids
+pub mod LastYear
 pub mod Demand
 pub mod Derivation
 pub mod Driver

@@ -8,8 +8,8 @@ use lib.Dec.{eqb, ltb}
 use Rattle.wcsp.specs.Row.{Row}
 use Rattle.wcsp.specs.Rule.{permitted}
 use Rattle.wcsp.specs.Resolve.{Pair, noRow, resolve}
-use Rattle.words.specs.Layout.{kindOf, stepVariableIn, firstRowIn, secondRowIn}
-use Rattle.stepping.specs.Step.{Stepping, refusing, stepsTo, allowed}
+use Rattle.words.specs.Layout.{kindOf}
+use Rattle.stepping.specs.Step.{Stepping, refusing, stepsTo, wordPair, allowed}
 
 -- the pair of a step word, if it is a permitted one: variable known, first row below the second, both in the table
 unfoldable pub permittedPair : List ℕ → List Row → Pair → Option Pair
@@ -23,8 +23,7 @@ permittedPair ds rs pr =
 -- the pair that a word names: none unless it is a step word
 unfoldable pub namedPair : List ℕ → List Row → ℕ → Option Pair
 unfolding permittedPair
-namedPair ds rs w =
-    cond (eqb (kindOf w) 7) (permittedPair ds rs (record { variable = stepVariableIn w; first = firstRowIn w; second = secondRowIn w })) none
+namedPair ds rs w = cond (eqb (kindOf w) 7) (permittedPair ds rs (wordPair w)) none
 
 -- one step word: 6, 11, 12, or the rows after the step
 unfoldable pub replayOn : List ℕ → ℕ → List Row → Option Pair → Stepping

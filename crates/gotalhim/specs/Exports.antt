@@ -9,6 +9,7 @@ use Rattle.encoding.specs.Calls.{encodeCall}
 use Rattle.resolution.specs.Calls.{stepCall, runCall}
 use Rattle.resolution.specs.Numbers.{stepNumber, stepFields, runNumber, runFields}
 use Rattle.completion.specs.Calls.{completeCall}
+use Rattle.conversion.specs.Calls.{toSixCall, toFiveCall}
 use Rattle.readout.specs.Calls.{readoutCall}
 use Rattle.checker.specs.Calls.{checkCall}
 use Rattle.calls.specs.Demand.{UpheldFrom}
@@ -50,6 +51,17 @@ runExport table limit derivation answer =
 abbrev pub completeExport : List ℕ → ℕ → List ℕ → List ℕ → List ℕ → Exported
 completeExport table k fixed target answer =
     let c = completeCall table k fixed target in
+    record { number = c .answer .number; slices = c .target ∷ []; answer = noted answer (c .answer .value ∷ []) }
+
+-- to six-word rows, and back to five: the target, and its rows
+abbrev pub sixExport : List ℕ → List ℕ → List ℕ → Exported
+sixExport source target answer =
+    let c = toSixCall source target in
+    record { number = c .answer .number; slices = c .target ∷ []; answer = noted answer (c .answer .value ∷ []) }
+
+abbrev pub fiveExport : List ℕ → List ℕ → List ℕ → Exported
+fiveExport source target answer =
+    let c = toFiveCall source target in
     record { number = c .answer .number; slices = c .target ∷ []; answer = noted answer (c .answer .value ∷ []) }
 
 -- check: the work table, and the steps replayed

@@ -3,7 +3,7 @@ ghost use mathlib.Core.Path.{_≡_};
 ghost use mathlib.Core.List.{[], _∷_};
 ghost use Rattle.resolution.specs.Numbers.{outcomeNumber, outcomeField};
 ghost use Rattle.assignment.specs.Calls.{planCall};
-ghost use Rattle.gotalhim.specs.Exports.{makeExport, encodeExport, stepExport, runExport, completeExport, checkExport, readoutExport, costExport, driveExport, DriveUpholds};
+ghost use Rattle.gotalhim.specs.Exports.{makeExport, encodeExport, stepExport, runExport, completeExport, sixExport, fiveExport, checkExport, readoutExport, costExport, driveExport, DriveUpholds};
 use answers::note;
 use answers::note_three;
 use answers::note_two;
@@ -116,6 +116,26 @@ pub extern "C" fn gotalhim_complete(
     let completed = completion::complete(table, k, fixed, target);
     note(answer, completed.value);
     completed.number
+}
+
+// Turn last year's table of five-word rows into one of six-word rows. Answer: the rows.
+#[no_mangle]
+pub extern "C" fn gotalhim_to_six(source: &[u32], target: &mut [u32], answer: &mut [u64]) -> u32
+    ensures returned { λ r. ⌜ record { number = r; slices = now (target .exit) ∷ []; answer = now (answer .exit) } ≡ sixExport (now (source .entry)) (now (target .entry)) (now (answer .entry)) ⌝ }
+{
+    let converted = conversion::to_six(source, target);
+    note(answer, converted.value);
+    converted.number
+}
+
+// Turn a table of six-word rows back into one of five-word rows. Answer: the rows.
+#[no_mangle]
+pub extern "C" fn gotalhim_to_five(source: &[u32], target: &mut [u32], answer: &mut [u64]) -> u32
+    ensures returned { λ r. ⌜ record { number = r; slices = now (target .exit) ∷ []; answer = now (answer .exit) } ≡ fiveExport (now (source .entry)) (now (target .entry)) (now (answer .entry)) ⌝ }
+{
+    let converted = conversion::to_five(source, target);
+    note(answer, converted.value);
+    converted.number
 }
 
 // Replay a derivation in a work table, and judge a plan and its claimed cost. Answer: the steps replayed.

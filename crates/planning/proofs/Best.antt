@@ -25,10 +25,10 @@ use Rattle.resolution.specs.Calls.{runCall}
 use Rattle.resolution.specs.Numbers.{outcomeField, runNumber}
 use Rattle.assignment.specs.Calls.{planCall}
 use Rattle.checker.specs.Theorems.{Best}
-use Rattle.calls.specs.Calls.{runAsked, afterCall, afterCalls}
+use Rattle.calls.specs.Calls.{runAsked, inPlace, afterCall, afterCalls}
 use Rattle.calls.specs.Forbids.{ForbidsExactly}
 use Rattle.calls.specs.Demand.{UpheldFrom}
-use Rattle.calls.proofs.Upholding.{demand3}
+use Rattle.calls.proofs.Upholding.{demand3InPlace}
 use Rattle.planning.specs.Solving.{tableBuffer, stepLimit}
 use Rattle.planning.specs.Theorems.{DoneIsBest, DoneIsForbidden, NoneBelow, RunFrom}
 
@@ -43,8 +43,8 @@ words-made t slice limit valid =
 module _ (sheet t slice : List ℕ) (limit : ℕ) (fine : sheetFault sheet ≡ 0)
     (coded : encodeCall (madeWords sheet) t .answer .number ≡ 0) where
   before : UpheldFrom (madeWords sheet) t (encodeCall (madeWords sheet) t .table) []
-  unfolding afterCalls
-  before = demand3 (madeWords sheet) t [] coded
+  unfolding afterCalls inPlace
+  before = demand3InPlace (madeWords sheet) t [] coded refl
 
   left : List ℕ
   left = runCall (encodeCall (madeWords sheet) t .table) limit slice .table
@@ -55,8 +55,8 @@ module _ (sheet t slice : List ℕ) (limit : ℕ) (fine : sheetFault sheet ≡ 0
       (runCall (encodeCall (madeWords sheet) t .table) limit slice .slice)
 
   upheld : UpheldFrom (madeWords sheet) t left words
-  unfolding afterCalls afterCall left words
-  upheld = demand3 (madeWords sheet) t (runAsked limit slice ∷ []) coded
+  unfolding afterCalls afterCall inPlace left words
+  upheld = demand3InPlace (madeWords sheet) t (runAsked limit slice ∷ []) coded refl
 
   same-sizes : sizesOf (madeWords sheet) ≡ sheetSizes sheet
   same-sizes = made-accepted sheet fine .sizes
@@ -66,11 +66,11 @@ module _ (sheet t slice : List ℕ) (limit : ℕ) (fine : sheetFault sheet ≡ 0
   pub run-below : NoneBelow (sizesOf (madeWords sheet)) (entriesOf (madeWords sheet))
       (runCall (encodeCall (madeWords sheet) t .table) limit slice .answer .bound)
   unfolding left
-  run-below = rw (before .1 .runBound limit slice) (upheld .1 .below)
+  run-below = rw (before .1 .runBound limit slice) (upheld .1 .kept .below)
 
   steps-made : length words ≡ runCall (encodeCall (madeWords sheet) t .table) limit slice .answer .steps
   unfolding words
-  steps-made = words-made (encodeCall (madeWords sheet) t .table) slice limit (before .1 .valid)
+  steps-made = words-made (encodeCall (madeWords sheet) t .table) slice limit (before .1 .kept .valid)
 
   pub run-from : length t ≡ tableBuffer → min limit (length slice) ≡ stepLimit
       → let r = runCall (encodeCall (madeWords sheet) t .table) limit slice in
@@ -80,7 +80,7 @@ module _ (sheet t slice : List ℕ) (limit : ℕ) (fine : sheetFault sheet ≡ 0
       record {
         words = words;
         rows = ownRows left;
-        derived = upheld .1 .derived;
+        derived = upheld .1 .kept .derived;
         made = steps-made;
         weight = sym (before .1 .runBound limit slice);
         ends = let r = before .1 .run limit slice in rw (before .0, long, most) at r;

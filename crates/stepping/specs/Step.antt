@@ -6,7 +6,7 @@ use lib.ListN.{length}
 use lib.Dec.{ltb}
 use Rattle.wcsp.specs.Row.{Row}
 use Rattle.wcsp.specs.Resolve.{Pair}
-use Rattle.words.specs.Layout.{stepWord}
+use Rattle.words.specs.Layout.{stepWord, stepVariableIn, firstRowIn, secondRowIn}
 use Rattle.table.specs.Layout.{tableWords, tooHeavy}
 use Rattle.table.specs.Meaning.{tableSizes}
 
@@ -27,6 +27,10 @@ refusalOf (stepsTo pr rs) = 0
 -- the step word of a pair
 abbrev pub pairWord : Pair → ℕ
 pairWord pr = stepWord (pr .variable) (pr .first) (pr .second)
+
+-- the pair that a step word names
+abbrev pub wordPair : ℕ → Pair
+wordPair w = record { variable = stepVariableIn w; first = firstRowIn w; second = secondRowIn w }
 
 -- the slice of a table with other rows
 abbrev pub withRows : List ℕ → List Row → List ℕ

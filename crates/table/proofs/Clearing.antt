@@ -53,7 +53,7 @@ module _ (t₀ : List ℕ) (at : ℕ) where
 
 -- ---- the table of no rows
 
-zeroed-long : (t₀ t₁ : List ℕ) (n : ℕ) → n + 2 ≤ length t₀ → t₁ ≡ take (n + 1) t₀ ++ replicate (length t₀ - (n + 1)) 0 → length t₁ ≡ length t₀
+pub zeroed-long : (t₀ t₁ : List ℕ) (n : ℕ) → n + 2 ≤ length t₀ → t₁ ≡ take (n + 1) t₀ ++ replicate (length t₀ - (n + 1)) 0 → length t₁ ≡ length t₀
 zeroed-long t₀ t₁ n room zeros = ap length zeros ∙ simp (length-append, length-take, length-replicate) (omega arith)
 
 pub zeroed-asks : (t₀ t₁ : List ℕ) (n : ℕ) {long : ℕ} → n + 2 ≤ length t₀ → t₁ ≡ take (n + 1) t₀ ++ replicate (length t₀ - (n + 1)) 0 → n ≤ 12

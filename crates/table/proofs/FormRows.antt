@@ -1,6 +1,7 @@
 -- The rows of a table of any form: what is read from words that pass the test is what their raw rows are made from, and the words of valid rows pass it.
 use Prim.Native.Nat.{ℕ, zero, suc, _+_, _*_, _<_}
-use native.Mathlib.Nat.{le-of-suc-le-suc}
+use native.Mathlib.Nat.{le-of-suc-le-suc, mul-zero}
+use native.Mathlib.Numerals.{add-one}
 use native.Mathlib.Omega.{arith}
 use mathlib.Core.Path.{_≡_, refl, sym, ap, ap₂, _∙_}
 use mathlib.Core.Bool.{true, not, _&&_}
@@ -41,6 +42,23 @@ module _ (f : TableForm) (law : TableLaws f) where
       let none = f .rows .read [] 0 in
       mapped-at (f .rowOf) (rawsFromIn (f .rows) count (drop base t)) none k (omega arith)
       ∙ ap (f .rowOf) (raw-at (f .rows) (law .form) t base count k none h)
+
+  rows-more : (k : ℕ) (ws : List ℕ) → rowsFromIn f (suc k) ws ≡ rowsFromIn f k ws ++ (f .rowOf (f .rows .read ws (f .rows .width * k)) ∷ [])
+  unfolding rowsFromIn rawsFromIn
+  rows-more zero ws = rw (mul-zero (f .rows .width))
+  rows-more (suc k) ws =
+      let w = f .rows .width in
+      let more : w + w * k ≡ w * suc k = omega arith in
+      ap (λ rs. f .rowOf (f .rows .read ws 0) ∷ rs)
+      (rows-more k (drop w ws)
+      ∙ ap (λ r. rowsFromIn f k (drop w ws) ++ (f .rowOf r ∷ [])) (law .form .read-drop ws w (w * k) ∙ ap (f .rows .read ws) more))
+
+  -- one row more
+  pub rows-next : (t : List ℕ) (base k : ℕ)
+      → rowsFromIn f (k + 1) (drop base t) ≡ rowsFromIn f k (drop base t) ++ (f .rowOf (f .rows .read t (base + f .rows .width * k)) ∷ [])
+  rows-next t base k =
+      ap (λ n. rowsFromIn f n (drop base t)) (add-one k) ∙ rows-more k (drop base t)
+      ∙ ap (λ r. rowsFromIn f k (drop base t) ++ (f .rowOf r ∷ [])) (law .form .read-drop t base (f .rows .width * k))
 
   pub rows-raws : {rs : List Row} → AllCarriedIn (f .limit) rs → map (f .rowOf) (map (f .rawOf) rs) ≡ rs
   rows-raws nilCarried = refl

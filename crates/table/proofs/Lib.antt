@@ -9,6 +9,7 @@ pub mod FormTables
 pub mod FormFinishing
 pub mod FormTests
 pub mod Clearing
+pub mod SignWords
 pub mod RawRows
 pub mod Canonical
 pub mod Finishing

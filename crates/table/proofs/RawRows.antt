@@ -1,28 +1,21 @@
 -- The form that every table has keeps the laws of a form of tables: rows and raw rows give each other, and a row's words pass the tests exactly if they are made from it.
 use Prim.Native.Nat.{ℕ, zero, suc, _+_, _*_, _<_, _≤_}
-use native.Mathlib.Omega.{arith}
-use mathlib.Core.Path.{_≡_, refl, sym, ap, _∙_}
-use mathlib.Core.Bool.{true, _&&_}
+use mathlib.Core.Path.{_≡_, refl, ap, _∙_}
+use mathlib.Core.Bool.{true}
 use mathlib.Core.List.{List, [], _∷_, _++_, map}
 use lib.ListN.{length, getD, drop}
 use Rattle.wcsp.specs.Row.{Row}
-use Rattle.wcsp.specs.Widening.{wide}
-use Rattle.wcsp.proofs.WideningClauses.{getD-wide}
 use Rattle.wcsp.specs.Resolve.{noRow}
-use Rattle.wcsp.proofs.Lists.{and-left, and-right}
-use Rattle.words.specs.Layout.{packed}
-use Rattle.clause.specs.declared.Clause.{Clause}
-use Rattle.clause.specs.Packed.{signsOf, FitsBlocks}
+use Rattle.clause.specs.Packed.{signsOf}
 use Rattle.rows.specs.Raw.{rowWidth, maxWeight, Raw, noRaw, rawWords, rawAt, weightIn, rowWeighs, signWords, rawRow, clauseIn}
-use Rattle.rows.proofs.Flat.{rowLaws}
-use Rattle.rows.proofs.RowWords.{clauseIn-rawRow, weight-most, weight-rawRow, weight-none, weight-made, weight-positive, weight-passes, row-of-words}
+use Rattle.rows.proofs.Flat.{rowLaws, rawAt-front}
+use Rattle.rows.proofs.RowWords.{weight-most, weight-rawRow, weight-none, weight-made, weight-positive, weight-passes}
 use Rattle.table.specs.Clauses.{clauseFrom}
 use Rattle.table.specs.Raws.{rowOf, rawOf, standardForm}
 use Rattle.table.specs.Meaning.{rowsFrom}
-use Rattle.table.specs.Valid.{isSigns, signKinds}
-use Rattle.table.proofs.Twelve.{twelve-signsOf, signs-clauseFrom, packed-clauseFrom, clauseFrom-signs}
+use Rattle.table.specs.Valid.{signKinds}
 use Rattle.table.proofs.Carried.{Carried, AllCarried}
-use Rattle.table.proofs.WordTests.{signs-made, signs-passes}
+use Rattle.table.proofs.SignWords.{twelve-said, signs-said, words-made, words-pass, clause-wide}
 use Rattle.table.proofs.TableLaws.{TableLaws}
 use Rattle.table.proofs.FormRows as forms
 
@@ -36,67 +29,39 @@ pub rowOf-weight : (r : Raw) → rowOf r .weight ≡ weightIn r
 unfolding rowOf
 rowOf-weight r = refl
 
-pub packed-clauseIn : (r : Raw) → FitsBlocks (clauseIn r)
-packed-clauseIn r = record { a = omega arith; b = omega arith; c = omega arith; d = omega arith }
+-- the signs of the row in front of what starts at its place
+pub signs-front : (t : List ℕ) (at : ℕ) → rowOf (rawAt (drop at t) 0) .signs ≡ signsOf (clauseIn (rawAt t at))
+signs-front t at = rw (rawAt-front t at) (rowOf-signs (rawAt t at))
 
 carries : (r : Raw) → Carried (rowOf r)
 unfolding rowOf
-carries r = record { twelve = twelve-signsOf (clauseIn r) (packed-clauseIn r); light = weight-most r }
+carries r = record { twelve = twelve-said r; light = weight-most r }
 
 -- ---- the raw row that says it
 
-rowOf-rawRow : (x : Clause) (w : ℕ) → FitsBlocks x → w ≤ maxWeight → rowOf (rawRow x w) ≡ record { signs = signsOf x; weight = w }
-unfolding rowOf
-rowOf-rawRow x w p h =
-    let e = clauseIn-rawRow x w p in
-    let f = weight-rawRow x w h in
-    λ i. record { signs = signsOf (e i); weight = f i }
-
 pub rowOf-rawOf : (r : Row) → Carried r → rowOf (rawOf r) ≡ r
+unfolding rowOf
 rowOf-rawOf r h =
-    let e = signs-clauseFrom (r .signs) (h .twelve) in
-    rowOf-rawRow (clauseFrom (r .signs)) (r .weight) (packed-clauseFrom (r .signs) (h .twelve)) (h .light)
-    ∙ λ i. record { signs = e i; weight = r .weight }
+    let e = signs-said (r .signs) (r .weight) (h .twelve) in
+    let f = weight-rawRow (clauseFrom (r .signs)) (r .weight) (h .light) in
+    λ i. record { signs = e i; weight = f i }
 
 -- ---- its words
 
 -- words of the right kinds are those of the raw row that is made from what they say
 made : (ws : List ℕ) → signKinds ws ≡ true → rowWeighs ws ≡ true → rawAt ws 0 ≡ rawOf (rowOf (rawAt ws 0))
-unfolding signKinds rawAt rowOf
-made ws e w =
-    let r = rawAt ws 0 in
-    let s0 = isSigns 0 (r .a) in
-    let s1 = isSigns 1 (r .b) in
-    let s2 = isSigns 2 (r .c) in
-    let s3 = isSigns 3 (r .d) in
-    let e3 = and-left (s0 && s1 && s2) s3 e in
-    let e2 = and-left (s0 && s1) s2 e3 in
-    weight-made ws w
-    ∙ row-of-words (clauseIn r) (r .a) (r .b) (r .c) (r .d) (weightIn r) (signs-made 0 (r .a) (and-left s0 s1 e2)) (signs-made 1 (r .b) (and-right s0 s1 e2)) (signs-made 2 (r .c) (and-right (s0 && s1) s2 e3)) (signs-made 3 (r .d) (and-right (s0 && s1 && s2) s3 e))
-    ∙ ap (λ x. rawRow x (weightIn r)) (sym (clauseFrom-signs (clauseIn r)))
+unfolding rowOf
+made ws e w = weight-made ws w ∙ words-made ws (weightIn (rawAt ws 0)) e
 
 positive : (ws : List ℕ) → rowWeighs ws ≡ true → 0 < rowOf (rawAt ws 0) .weight
 unfolding rowOf
 positive ws w = weight-positive ws w
 
 signs-pass : (r : Row) (ws : List ℕ) → Carried r → signKinds (rawWords (rawOf r) ++ ws) ≡ true
-unfolding signKinds
-signs-pass r ws h =
-    let b = packed-clauseFrom (r .signs) (h .twelve) in
-    rw (signs-passes 0 _ (omega arith) (b .a), signs-passes 1 _ (omega arith) (b .b), signs-passes 2 _ (omega arith) (b .c), signs-passes 3 _ (omega arith) (b .d))
+signs-pass r ws h = words-pass (r .signs) _ (h .twelve)
 
 weight-pass : (r : Row) (ws : List ℕ) → Carried r → 0 < r .weight → rowWeighs (rawWords (rawOf r) ++ ws) ≡ true
 weight-pass r ws h p = weight-passes (signWords _ _ _ _) (r .weight) ws p (h .light)
-
-clause-wide : (k : ℕ) (c : List ℕ) → clauseFrom (wide k c) ≡ clauseFrom c
-clause-wide k c =
-    let at = getD-wide k c in
-    λ i. record {
-      a = packed (at 0 i) (at 1 i) (at 2 i);
-      b = packed (at 3 i) (at 4 i) (at 5 i);
-      c = packed (at 6 i) (at 7 i) (at 8 i);
-      d = packed (at 9 i) (at 10 i) (at 11 i);
-    }
 
 pub tableLaws : TableLaws standardForm
 tableLaws =

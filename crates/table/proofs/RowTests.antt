@@ -12,11 +12,10 @@ use Rattle.wcsp.specs.Sign.{full}
 use Rattle.words.specs.Layout.{unpacked}
 use Rattle.clause.specs.declared.Clause.{Clause}
 use Rattle.clause.specs.Packed.{signsOf, FullSigns}
-use Rattle.rows.specs.Raw.{rawAt, rowWeighs, clauseIn}
-use Rattle.rows.proofs.Flat.{rawAt-front}
-use Rattle.table.specs.Valid.{signKinds, validSigns, allBelow, validRowIn, validRow}
+use Rattle.rows.specs.Raw.{rawAt, clauseIn}
+use Rattle.table.specs.Form.{TableForm}
+use Rattle.table.specs.Valid.{signKinds, validSigns, allBelow, validRowIn}
 use Rattle.table.proofs.WordTests.{signs-test}
-use Rattle.table.proofs.RawRows.{rowOf-signs}
 
 -- ---- one block
 
@@ -114,21 +113,21 @@ module _ (t : List ℕ) (at : ℕ) where
   as-fourth a b c =
       sym (kinds-at ∙ rw (eq-eqb (getD t at 0 / 16777216) 80 a, eq-eqb (getD t (at + 1) 0 / 16777216) 81 b, eq-eqb (getD t (at + 2) 0 / 16777216) 82 c))
 
--- ---- a row
+-- ---- a row of any form, whose signs are those of its four sign words
 
-module _ (t : List ℕ) (at : ℕ) where
-  row-there : (ds : List ℕ) → validRow ds (drop at t) ≡ (signKinds (drop at t) && rowWeighs (drop at t) && validSigns ds (signsOf (clauseIn (rawAt t at))))
+module _ (f : TableForm) (t : List ℕ) (at : ℕ) (front : f .rowOf (f .rows .read (drop at t) 0) .signs ≡ signsOf (clauseIn (rawAt t at))) where
+  row-there : (ds : List ℕ) → validRowIn f ds (drop at t) ≡ (signKinds (drop at t) && f .weighs (drop at t) && validSigns ds (signsOf (clauseIn (rawAt t at))))
   unfolding validRowIn
-  row-there ds = rw (rawAt-front t at, rowOf-signs (rawAt t at))
+  row-there ds = rw front
 
-  pub wrong-signs : (k : Bool) → k ≡ signKinds (drop at t) → k ≡ false → (ds : List ℕ) → false ≡ validRow ds (drop at t)
-  wrong-signs k e f ds = rw (row-there ds, ← e, f)
+  pub wrong-signs : (k : Bool) → k ≡ signKinds (drop at t) → k ≡ false → (ds : List ℕ) → false ≡ validRowIn f ds (drop at t)
+  wrong-signs k e q ds = rw (row-there ds, ← e, q)
 
-  pub wrong-weight : (k : Bool) → k ≡ rowWeighs (drop at t) → k ≡ false → (ds : List ℕ) → false ≡ validRow ds (drop at t)
-  wrong-weight k e f ds = rw (row-there ds, ← e, f, and-false)
+  pub wrong-weight : (k : Bool) → k ≡ f .weighs (drop at t) → k ≡ false → (ds : List ℕ) → false ≡ validRowIn f ds (drop at t)
+  wrong-weight k e q ds = rw (row-there ds, ← e, q, and-false)
 
-  pub as-signs : (k w : Bool) (x f : Clause) (r : Bool) → k ≡ signKinds (drop at t) → k ≡ true → w ≡ rowWeighs (drop at t) → w ≡ true
+  pub as-signs : (k w : Bool) (x fulls : Clause) (r : Bool) → k ≡ signKinds (drop at t) → k ≡ true → w ≡ f .weighs (drop at t) → w ≡ true
       → x ≡ clauseIn (rawAt t at)
-      → ((ds : List ℕ) → FullSigns f ds → r ≡ validSigns ds (signsOf x)) → (ds : List ℕ) → FullSigns f ds → r ≡ validRow ds (drop at t)
-  as-signs k w x f r e g i j p h ds l =
+      → ((ds : List ℕ) → FullSigns fulls ds → r ≡ validSigns ds (signsOf x)) → (ds : List ℕ) → FullSigns fulls ds → r ≡ validRowIn f ds (drop at t)
+  as-signs k w x fulls r e g i j p h ds l =
       rw (row-there ds, ← e, g, ← i, j) (h ds l ∙ ap (λ y. validSigns ds (signsOf y)) p)

@@ -2,7 +2,7 @@
 ghost use mathlib.Core.Path.{_≡_};
 ghost use mathlib.Core.Bool.{true, _&&_};
 ghost use mathlib.Core.List.{List, _++_};
-ghost use Prim.Native.Nat.{ℕ, _+_, _-_, _*_, _<_, _≤_};
+ghost use Prim.Native.Nat.{ℕ, _+_, _-_, _*_, _/_, _<_, _≤_, min};
 ghost use lib.ListN.{length, take, drop, replicate};
 ghost use Rattle.wcsp.specs.Sign.{full};
 ghost use Rattle.wcsp.specs.Row.{emptyWeight};
@@ -54,16 +54,24 @@ pub fn full_sign(d: u32) -> u32
     (1u32 << d) - 1
 }
 
+// How many rows of so many words a slice of this length takes over n variables.
+pub fn rows_in(len: usize, n: usize, width: usize) -> usize
+    requires { ⌜ (rowsAt n ≤ len) × (0 < width) ⌝ }
+    ensures { λ r. ⌜ (r ≡ min maxRows ((len - rowsAt n) / width)) × (r ≤ maxRows) ⌝ }
+{
+    let rows = (len - n - 2) / width;
+    if MAX_ROWS < rows {
+        return MAX_ROWS;
+    }
+    rows
+}
+
 // How many rows a slice of this length takes over n variables.
 pub fn room(len: usize, n: usize) -> usize
     requires { ⌜ rowsAt n ≤ len ⌝ }
     ensures { λ r. ⌜ (r ≡ capacity len n) × (r ≤ maxRows) ⌝ }
 {
-    let rows = (len - n - 2) / rows::WIDTH;
-    if MAX_ROWS < rows {
-        return MAX_ROWS;
-    }
-    rows
+    rows_in(len, n, rows::WIDTH)
 }
 
 // The domain size that a station word gives, 0 if it is none from 1 to 8.

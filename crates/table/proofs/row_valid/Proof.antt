@@ -1,6 +1,8 @@
 -- `row_valid` meets its contract: the sign words first, then the weight, then the signs.
 use borrow.Author.Needs.{needs}
 use borrow.Author.Tests.{not-true, not-false}
+use Rattle.table.specs.Raws.{standardForm}
+use Rattle.table.proofs.RawRows.{signs-front}
 use Rattle.table.proofs.RowTests.{wrong-signs, wrong-weight, as-signs}
 use Rattle.table.proofs.row_valid.Statement.{statement}
 use Rattle.table.proofs.row_valid.Tie as tie
@@ -8,18 +10,18 @@ use Rattle.table.proofs.row_valid.Tie as tie
 returns : tie.Need-returns
 returns c =
     let g = c .before .before .before .args in
-    λ ds h. wrong-signs (g .t .now) (g .at) _ (c .before .signs-there .ensures) (not-true _ (c .if1 .taken)) ds
+    λ ds h. wrong-signs standardForm (g .t .now) (g .at) (signs-front (g .t .now) (g .at)) _ (c .before .signs-there .ensures) (not-true _ (c .if1 .taken)) ds
 
 returns-2 : tie.Need-returns-2
 returns-2 c =
     let g = c .before .before .before .before .before .args in
-    λ ds h. wrong-weight (g .t .now) (g .at) _ (c .before .weight-there .ensures) (not-true _ (c .if2 .taken)) ds
+    λ ds h. wrong-weight standardForm (g .t .now) (g .at) (signs-front (g .t .now) (g .at)) _ (c .before .weight-there .ensures) (not-true _ (c .if2 .taken)) ds
 
 returns-3 : tie.Need-returns-3
 returns-3 c =
     let w = c .before .before .before in
     let g = w .before .before .before .before .args in
-    as-signs (g .t .now) (g .at) _ _ _ (g .fulls) _ (w .before .before .signs-there .ensures) (not-false _ (w .before .if1 .left))
+    as-signs standardForm (g .t .now) (g .at) (signs-front (g .t .now) (g .at)) _ _ _ (g .fulls) _ (w .before .before .signs-there .ensures) (not-false _ (w .before .if1 .left))
     (w .weight-there .ensures) (not-false _ (c .before .before .if2 .left)) (c .before .clause-at .ensures .0) (c .signs-valid .ensures)
 
 pub row-valid-spec : {M : Type 1} → statement M
