@@ -7,9 +7,9 @@
 
 /* The version of this interface. Another major version may change what is here; another minor one only adds to it. */
 #define GOTALHIM_VERSION_MAJOR 3
-#define GOTALHIM_VERSION_MINOR 0
+#define GOTALHIM_VERSION_MINOR 1
 #define GOTALHIM_VERSION_PATCH 0
-#define GOTALHIM_VERSION "3.0.0"
+#define GOTALHIM_VERSION "3.1.0"
 
 #ifdef __cplusplus
 extern "C" {
@@ -22,7 +22,7 @@ extern "C" {
  *    3 binding: variable in bits 8-11, value in bits 0-2
  *    4 cost: 0 to 65,535
  *    5 signs: index k in bits 24-27, the signs of variables 3k, 3k+1, 3k+2 in bits 0-7, 8-15, 16-23
- *    6 low 28 bits of a row's weight
+ *    6 low 28 bits of a row's weight; in a row of five words the whole weight
  *    7 step: variable in bits 24-27, first row in bits 12-23, second row in bits 0-11
  *    8, 9 easting, northing: centimetres, two's complement of 28 bits, -1,000,000 to 1,000,000
  *   10 row count
@@ -33,7 +33,9 @@ extern "C" {
  * together: a plan without a forbidden combination costs less than that, every other plan at least that.
  * Sheet: as an instance, but behind each size stand that many pairs of easting and northing.
  * Table: head, n sizes, row count, rows, then zeros to the end of the slice. A row is four sign words and the two words of
- * its weight, 1 to GOTALHIM_MAX_WEIGHT. Rows of five words, as version 2 had them, are not valid.
+ * its weight, 1 to GOTALHIM_MAX_WEIGHT. In the five-word form, which version 2 had, a row is four sign words and one word
+ * of kind 6 with its weight, 1 to GOTALHIM_FIVE_MAX_WEIGHT. A table with rows is valid in one form only, and only
+ * gotalhim_to_six takes rows of five words: everywhere else a table has rows of six. Without rows both forms are the same.
  * Plan: n bytes, the value of each variable.
  *
  * Slices. A slice is a pointer and a length in elements. The pointer is not null, even where the length is 0, and is
@@ -69,11 +71,13 @@ enum gotalhim_number {
     GOTALHIM_BAD_TABLE = 9,         /* not a valid table */
     GOTALHIM_TARGET_TOO_SHORT = 10,
     GOTALHIM_WEIGHT_TOO_HIGH = 11,  /* a weight, or the cost of a completion, would be 2 to the 56th or more */
-    GOTALHIM_TABLE_FULL = 12,       /* the finished encoding or step would need more rows than there is room for */
+    GOTALHIM_TABLE_FULL = 12,       /* the finished encoding or step would need more rows than there is room for; or a
+                                       target has no room for the rows of a conversion */
     GOTALHIM_PAIR_LEFT = 13,        /* plan or completion wanted while a pair is left */
     GOTALHIM_BAD_FIXED = 14,        /* k above n, not exactly n - k fixed values, or one out of range */
-    GOTALHIM_FORBIDDEN = 15         /* plan wanted, but the row without literals weighs GOTALHIM_FORBIDDEN_WEIGHT or more;
+    GOTALHIM_FORBIDDEN = 15,        /* plan wanted, but the row without literals weighs GOTALHIM_FORBIDDEN_WEIGHT or more;
                                        then, in a table from an accepted instance, every plan has a forbidden combination */
+    GOTALHIM_WEIGHT_TOO_WIDE = 16   /* rows of five words wanted, but one weighs more than GOTALHIM_FIVE_MAX_WEIGHT */
 };
 
 /* How a run ended, the first field of its answer. */
@@ -86,20 +90,29 @@ enum gotalhim_outcome {
 #define GOTALHIM_MAX_VARIABLES 12
 #define GOTALHIM_MAX_ROWS 4096
 #define GOTALHIM_ROW_WORDS 6
+#define GOTALHIM_FIVE_ROW_WORDS 5
 
-/* What a forbidden entry costs, and the greatest weight of a row: one less than 2 to the 56th. */
+/* What a forbidden entry costs, and the greatest weight of a row: one less than 2 to the 56th, in a row of five words one
+ * less than 2 to the 28th. */
 #define GOTALHIM_FORBIDDEN_WEIGHT UINT64_C(268431361)
 #define GOTALHIM_MAX_WEIGHT UINT64_C(72057594037927935)
+#define GOTALHIM_FIVE_MAX_WEIGHT UINT64_C(268435455)
 
-/* The words of a table over so many variables with room for so many rows. */
-#define GOTALHIM_TABLE_WORDS(variables, rows) ((size_t)(variables) + 2 + GOTALHIM_ROW_WORDS * (size_t)(rows))
+/* The words of a table over so many variables with room for so many rows, of six words each and of five. */
+#define GOTALHIM_TABLE_WORDS(variables, rows) GOTALHIM_WORDS_BY(GOTALHIM_ROW_WORDS, variables, rows)
+#define GOTALHIM_FIVE_TABLE_WORDS(variables, rows) GOTALHIM_WORDS_BY(GOTALHIM_FIVE_ROW_WORDS, variables, rows)
 
-/* The rows that a table over so many variables has room for in a slice of so many words. Arguments are evaluated anew
- * at each of their places. */
-#define GOTALHIM_TABLE_ROWS(variables, words) \
-    ((size_t)(words) < GOTALHIM_TABLE_WORDS(variables, 0) ? (size_t)0 \
-     : (size_t)(words) < GOTALHIM_TABLE_WORDS(variables, GOTALHIM_MAX_ROWS) \
-         ? ((size_t)(words) - GOTALHIM_TABLE_WORDS(variables, 0)) / GOTALHIM_ROW_WORDS \
+/* The rows that a table over so many variables has room for in a slice of so many words, of six words each and of five.
+ * Arguments are evaluated anew at each of their places. */
+#define GOTALHIM_TABLE_ROWS(variables, words) GOTALHIM_ROWS_BY(GOTALHIM_ROW_WORDS, variables, words)
+#define GOTALHIM_FIVE_TABLE_ROWS(variables, words) GOTALHIM_ROWS_BY(GOTALHIM_FIVE_ROW_WORDS, variables, words)
+
+/* The same by the words of a row, for the macros above. */
+#define GOTALHIM_WORDS_BY(row_words, variables, rows) ((size_t)(variables) + 2 + (row_words) * (size_t)(rows))
+#define GOTALHIM_ROWS_BY(row_words, variables, words) \
+    ((size_t)(words) < GOTALHIM_WORDS_BY(row_words, variables, 0) ? (size_t)0 \
+     : (size_t)(words) < GOTALHIM_WORDS_BY(row_words, variables, GOTALHIM_MAX_ROWS) \
+         ? ((size_t)(words) - GOTALHIM_WORDS_BY(row_words, variables, 0)) / (row_words) \
      : (size_t)GOTALHIM_MAX_ROWS)
 
 /*
@@ -150,8 +163,8 @@ uint32_t gotalhim_run(uint32_t *table, size_t table_length,
 
 /*
  * Rebuilds the plan from a table in which no pair is left. If the table comes from the encoding of an accepted instance
- * by any list of step calls, runs and plan calls, a plan that is written has the least cost and no forbidden combination;
- * with no pair left and room in the target, the number is 15 exactly if every plan has one.
+ * by any list of step calls, runs, plan calls and conversions, a plan that is written has the least cost and no forbidden
+ * combination; with no pair left and room in the target, the number is 15 exactly if every plan has one.
  * Tests, in this order: 9; 10 if the target is shorter than n bytes; 13; 15 if the row without literals weighs
  * GOTALHIM_FORBIDDEN_WEIGHT or more, wherever the table comes from.
  * Memory: the plan in front of the target, the rest kept.
@@ -162,7 +175,7 @@ uint32_t gotalhim_plan(const uint32_t *table, size_t table_length,
 /*
  * Completes a plan of which the values of the variables from k to n - 1 are fixed, that of variable k standing first,
  * without new steps: rebuilds the values of the others from a table in which no pair is left. If the table comes from the
- * encoding of an accepted instance by any list of step calls, runs and plan calls, or is the work table that
+ * encoding of an accepted instance by any list of step calls, runs, plan calls and conversions, or is the work table that
  * gotalhim_check left of one, the plan that is written costs the answer, no plan with these fixed values costs less, and
  * 11 does not occur; the answer is GOTALHIM_FORBIDDEN_WEIGHT or more exactly if every plan with these fixed values has a
  * forbidden combination. With k = n no value is fixed: the plan is that of gotalhim_plan, and the answer is the weight of
@@ -178,6 +191,30 @@ uint32_t gotalhim_complete(const uint32_t *table, size_t table_length,
                            const uint8_t *fixed, size_t fixed_length,
                            uint8_t *target, size_t target_length,
                            uint64_t *answer, size_t answer_length);
+
+/*
+ * Turns a table with rows of five words into the one with rows of six: the same sizes and the same rows in their order.
+ * So, for every plan, the rows that it falsifies weigh the same in both.
+ * Tests, in this order: 9 if the source is no valid table with rows of five words; 10 if the target is shorter than n + 2
+ * words; 12 if it has no room for the rows, of six words each.
+ * Answer: the number of rows.
+ * Memory: the whole target, zero past the rows. The source is only read; as everywhere, it must not lie in the target.
+ */
+uint32_t gotalhim_to_six(const uint32_t *source, size_t source_length,
+                         uint32_t *target, size_t target_length,
+                         uint64_t *answer, size_t answer_length);
+
+/*
+ * Turns a table with rows of six words into the one with rows of five: the same sizes and the same rows in their order.
+ * There and back, either way round, gives the words of before in a slice as long as before.
+ * Tests, in this order: 9; 10 if the target is shorter than n + 2 words; 16 if a row weighs more than
+ * GOTALHIM_FIVE_MAX_WEIGHT; 12 if the target has no room for the rows, of five words each.
+ * Answer: the number of rows.
+ * Memory: the whole target, zero past the rows. The source is only read; as everywhere, it must not lie in the target.
+ */
+uint32_t gotalhim_to_five(const uint32_t *source, size_t source_length,
+                          uint32_t *target, size_t target_length,
+                          uint64_t *answer, size_t answer_length);
 
 /*
  * Encodes an instance as gotalhim_encode does, and then makes the calls of a list of words, one after the other. A call
@@ -213,7 +250,9 @@ uint32_t gotalhim_drive(const uint32_t *instance, size_t instance_length,
  * variable, and then requires that the claimed cost is the bound and is the plan's cost. Number 0 means that the claimed
  * cost is the least cost of the instance and that the plan has it, whoever made derivation, plan and claim. A forbidden
  * entry counts at its cost: an accepted claim of GOTALHIM_FORBIDDEN_WEIGHT or more shows that every plan has a forbidden
- * combination. The number is never 15; the plan may be that of gotalhim_complete with k = n.
+ * combination. The number is never 15; the plan may be that of gotalhim_complete with k = n. What a list of calls came to
+ * whose table has no pair left, its step words, plan and bound, is accepted in a work table as long as the list's; where
+ * the table was converted on the way, in one with room for the most rows that it ever had, from the encoding on.
  * Tests: 1 to 5 on the instance; 10 if the slice is shorter than n + 2 words; 12 for the encoding; for each step word
  * in turn 6, 11, 12; then 7.
  * Answer: the steps replayed, also where a step word or the claim is refused.

@@ -132,6 +132,13 @@ fn cost(line: &mut Line) -> Answer {
     Answer::of(plain::cost(&instance, &assignment))
 }
 
+/// Either conversion.
+fn convert(line: &mut Line, made: fn(&[u32], &mut [u32]) -> Result<usize, Refusal>) -> Answer {
+    let (source, mut target) = (line.words(), line.words());
+    let converted = made(&source, &mut target);
+    Answer::of(converted.map(|rows| rows as u64)).with_words(&target)
+}
+
 fn answer(text: &str) -> Answer {
     let (name, numbers) = text.split_once(' ').expect("a call with its numbers");
     let line = &mut Line::read(numbers);
@@ -145,6 +152,8 @@ fn answer(text: &str) -> Answer {
         "check" => check(line),
         "readout" => readout(line),
         "cost" => cost(line),
+        "to_six" => convert(line, plain::to_six),
+        "to_five" => convert(line, plain::to_five),
         _ => panic!("no such call: {}", name),
     }
 }

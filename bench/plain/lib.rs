@@ -5,6 +5,7 @@ mod assignment;
 mod checker;
 mod clause;
 mod conclusions;
+mod conversion;
 mod distance;
 mod domains;
 mod encoding;
@@ -23,6 +24,7 @@ pub mod words;
 
 pub use assignment::{complete, plan};
 pub use checker::{check, Checked};
+pub use conversion::{to_five, to_six};
 pub use encoding::encode;
 pub use entries::cost;
 pub use making::make_instance;

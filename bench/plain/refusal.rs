@@ -21,6 +21,7 @@ pub enum Refusal {
     // Of document 02's requests.
     BadFixed = 14,
     Forbidden = 15,
+    WeightTooWide = 16,
 }
 
 impl Refusal {

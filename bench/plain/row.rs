@@ -14,6 +14,9 @@ pub struct Row {
 
 pub const ROW_WORDS: usize = 6;
 
+/// The words of a row in last year's tables: its weight has one.
+pub const FIVE_ROW_WORDS: usize = 5;
+
 pub const NO_ROW: Row = Row { signs: [0; 4], low: 0, high: 0 };
 
 impl Row {
@@ -34,6 +37,17 @@ impl Row {
 
     pub fn raise(&mut self, more: u64) {
         self.set_weight(self.weight() + more);
+    }
+
+    /// The row of five words, which need not be good ones.
+    pub fn of_five(words: &[u32]) -> Row {
+        Row { signs: [words[0], words[1], words[2], words[3]], low: words[4], high: words::word(words::HIGH_WEIGHT, 0) }
+    }
+
+    /// Its five words; the weight has no high bits.
+    pub fn five_words(&self) -> [u32; FIVE_ROW_WORDS] {
+        let [first, second, third, fourth] = self.signs;
+        [first, second, third, fourth, self.low]
     }
 
     /// Whether both words have their kinds and the weight is above 0.

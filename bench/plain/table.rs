@@ -1,10 +1,10 @@
-//! A clause table in lent words: its layout, capacity and validity.
+//! A clause table in lent words: its layout, capacity and validity, in either form of its rows.
 
 use crate::clause::{is_tautology, EMPTY};
 use crate::domains::Domains;
 use crate::limits::{MAX_ROWS, MAX_SIZE, MAX_VARIABLES};
 use crate::refusal::{require, Refusal};
-use crate::row::{empty_weight, find, rows_in, rows_in_mut, Row, ROW_WORDS};
+use crate::row::{empty_weight, find, rows_in, rows_in_mut, Row, FIVE_ROW_WORDS, ROW_WORDS};
 use crate::words::{self, kind, payload};
 
 /// A valid table. Spare words behind the last whole row are zero and stay so.
@@ -74,19 +74,39 @@ pub fn rows_start(variables: usize) -> usize {
 }
 
 pub fn capacity(variables: usize, length: usize) -> usize {
-    MAX_ROWS.min((length - rows_start(variables)) / ROW_WORDS)
+    capacity_of(ROW_WORDS, variables, length)
+}
+
+/// The same for rows of so many words.
+pub fn capacity_of(row_words: usize, variables: usize, length: usize) -> usize {
+    MAX_ROWS.min((length - rows_start(variables)) / row_words)
 }
 
 /// The domains and the number of rows of a valid table.
 pub fn validated(words: &[u32]) -> Result<(Domains, usize), Refusal> {
+    let (domains, rows) = laid_out(ROW_WORDS, words)?;
+    let rows = rows_in(rows);
+    require(are_valid(&domains, rows), Refusal::BadTable)?;
+    Ok((domains, rows.len()))
+}
+
+/// The domains and the rows of a valid table with rows of five words.
+pub fn validated_five(words: &[u32]) -> Result<(Domains, Vec<Row>), Refusal> {
+    let (domains, rows) = laid_out(FIVE_ROW_WORDS, words)?;
+    let rows: Vec<Row> = rows.chunks_exact(FIVE_ROW_WORDS).map(Row::of_five).collect();
+    require(are_valid(&domains, &rows), Refusal::BadTable)?;
+    Ok((domains, rows))
+}
+
+/// The domains of a table whose rows have so many words, and the words of its rows; those behind them are zero.
+fn laid_out(row_words: usize, words: &[u32]) -> Result<(Domains, &[u32]), Refusal> {
     let domains = valid_domains(words)?;
     let start = rows_start(domains.count());
     let used = valid_payload(words, start - 1, words::ROW_COUNT)? as usize;
-    require(used <= capacity(domains.count(), words.len()), Refusal::BadTable)?;
-    let (rows, behind) = words[start..].split_at(used * ROW_WORDS);
+    require(used <= capacity_of(row_words, domains.count(), words.len()), Refusal::BadTable)?;
+    let (rows, behind) = words[start..].split_at(used * row_words);
     require(behind.iter().all(|&word| word == 0), Refusal::BadTable)?;
-    require(are_valid(&domains, rows_in(rows)), Refusal::BadTable)?;
-    Ok((domains, used))
+    Ok((domains, rows))
 }
 
 /// The domains of a slice that has room for head, sizes and row count.

@@ -4,10 +4,12 @@ import driver
 from chosen import GROWING, NONE_LEFT
 from lists import SMALL_FIELDS
 from reference import fields, words
+from reference.forms import FIVE
 from reference.limits import MAX_WEIGHT
 from small_fields import through_all_calls
 
 SHEET = fields.sheet([[(0, 0)], [(300, 400), (600, 800)]], [([(1, 0)], 9)])
+FIVE_WORDS, SIX_WORDS = fields.table([3], "6:2 1:5", 13, FIVE), fields.table([3], "6:2 1:5", 15)
 LONGEST = 5
 
 
@@ -18,6 +20,8 @@ def good_calls(both):
     both.cost(fields.instance(*GROWING), [0, 0, 0])
     both.readout(SHEET, [0, 1], 1, words.easting(0), words.northing(0))
     both.drive(fields.instance(*GROWING), [9] * 60, [driver.step_word()] * 3, [9] * 3, [9] * 3)
+    both.to_six(FIVE_WORDS, [9] * 15)
+    both.to_five(SIX_WORDS, [9] * 13)
 
 
 def refused_calls(both):
@@ -36,6 +40,12 @@ def refused_calls(both):
     both.complete(fields.table([2], f"2:{MAX_WEIGHT} empty:1", 20), 0, [0], [9])
     both.step(tight[:-1])
     both.run(tight[:-1], 9, [9] * 9)
+    for length in (2, 12, 15):
+        both.to_six(SIX_WORDS, [9] * length)
+        both.to_five(FIVE_WORDS, [9] * length)
+        both.to_six(FIVE_WORDS, [9] * (length - 1))
+        both.to_five(SIX_WORDS, [9] * length)
+        both.to_five(fields.table([3], f"6:{MAX_WEIGHT}", 15), [9] * length)
     both.make(SHEET, [9] * 3)
     both.cost(instance, [])
     both.readout(SHEET, [0, 1], 2, words.easting(0), words.northing(0))

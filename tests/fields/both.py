@@ -149,9 +149,20 @@ class Both:
                    Answer(completed.number, [completed.cost], [table, fixed, completed.target]))
         return completed
 
+    def to_six(self, source, target):
+        return self.convert("to_six", source, target, reference.to_six(source, target))
+
+    def to_five(self, source, target):
+        return self.convert("to_five", source, target, reference.to_five(source, target))
+
+    def convert(self, name, source, target, due):
+        """A conversion of which it is known what it comes to."""
+        self.agree(name, [(WORD, source), (WORD, target)], Answer(due.number, [due.rows], [source, due.target]))
+        return due
+
     def on_table(self, table):
-        """A step, runs, plans and completions, each on the same table; where it is not valid, 9 comes before the short
-        target's 10 and the 14 of what is fixed. Where all is forbidden, every value is rebuilt by a completion alone."""
+        """A step, runs, plans, completions and conversions, each on the same table; where it is not valid, 9 comes before the
+        short target's 10 and the 14 of what is fixed. Where all is forbidden, every value is rebuilt by a completion alone."""
         self.step(table)
         self.run(table, RUN_LIMIT, [9] * (RUN_LIMIT + 1))
         self.run(table, RUN_LIMIT, [9] * 2)
@@ -160,6 +171,9 @@ class Both:
         self.plan(table, [])
         self.complete(table, 1, [0] * (named_variables(table) - 1), [200] * 13)
         self.complete(table, SIZE_MAX, [], [])
+        # With room for every row in either form.
+        self.to_six(table, [9] * (len(table) + len(table) // 5))
+        self.to_five(table, [9] * len(table))
 
     def check(self, instance, derivation, plan, claimed, table):
         checked = reference.check_call(instance, derivation, plan, claimed, table)

@@ -5,7 +5,6 @@ from typing import NamedTuple
 import reference
 from reference import fields
 from reference.steps import STEPPED
-from reference.tables import read_table
 
 # Room for every step and row of the fields that are recorded.
 STEPS = 400
@@ -35,9 +34,9 @@ def recorded(field, spare=0):
     """The record of a run to the end, in the shortest table that has room for it, with so many words more."""
     instance, variables = fields.instance(*field), len(field[0])
     start = reference.encode(instance, [0] * fields.table_length(variables, ROWS)).table
-    derivation, tables = stepped(start)
     ran = reference.run_call(start, STEPS, [0] * STEPS)
+    derivation = ran.derivation[:ran.steps]
     # As the plan, also where all are forbidden.
     plan = reference.complete_call(ran.table, variables, [], [0] * variables).target
-    most_rows = max(len(read_table(table).rows) for table in tables)
-    return Record(instance, derivation, plan, ran.bound, fields.table_length(variables, most_rows, spare))
+    length = fields.table_length(variables, reference.most_rows(instance, derivation), spare)
+    return Record(instance, derivation, plan, ran.bound, length)

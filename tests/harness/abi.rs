@@ -61,6 +61,16 @@ mod declared {
             plan: *const u8, plan_length: usize,
             answer: *mut u64, answer_length: usize,
         ) -> u32;
+        pub fn gotalhim_to_six(
+            source: *const u32, source_length: usize,
+            target: *mut u32, target_length: usize,
+            answer: *mut u64, answer_length: usize,
+        ) -> u32;
+        pub fn gotalhim_to_five(
+            source: *const u32, source_length: usize,
+            target: *mut u32, target_length: usize,
+            answer: *mut u64, answer_length: usize,
+        ) -> u32;
     }
 }
 
@@ -192,6 +202,28 @@ pub fn cost(instance: &[u32], plan: &[u8], answer: &mut [u64]) -> u32 {
         declared::gotalhim_cost(
             instance.as_ptr(), instance.len(),
             plan.as_ptr(), plan.len(),
+            answer.as_mut_ptr(), answer.len(),
+        )
+    }
+}
+
+/// Writes the six-word table of a five-word one; the answer is the number of rows.
+pub fn to_six(source: &[u32], target: &mut [u32], answer: &mut [u64]) -> u32 {
+    unsafe {
+        declared::gotalhim_to_six(
+            source.as_ptr(), source.len(),
+            target.as_mut_ptr(), target.len(),
+            answer.as_mut_ptr(), answer.len(),
+        )
+    }
+}
+
+/// Writes the five-word table of a six-word one; the answer is the number of rows.
+pub fn to_five(source: &[u32], target: &mut [u32], answer: &mut [u64]) -> u32 {
+    unsafe {
+        declared::gotalhim_to_five(
+            source.as_ptr(), source.len(),
+            target.as_mut_ptr(), target.len(),
             answer.as_mut_ptr(), answer.len(),
         )
     }

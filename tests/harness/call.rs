@@ -12,12 +12,14 @@ pub enum Call {
     Cost { instance: Vec<u32>, assignment: Vec<u8> },
     Drive { instance: Vec<u32>, table: Vec<u32>, calls: Vec<u32>, derivation: Vec<u32>, target: Vec<u8> },
     Complete { table: Vec<u32>, k: usize, fixed: Vec<u8>, target: Vec<u8> },
+    ToSix { source: Vec<u32>, target: Vec<u32> },
+    ToFive { source: Vec<u32>, target: Vec<u32> },
 }
 
-pub const CALLS: usize = 10;
+pub const CALLS: usize = 12;
 
 pub const NAMES: [&str; CALLS] =
-    ["make", "encode", "step", "run", "plan", "check", "readout", "cost", "drive", "complete"];
+    ["make", "encode", "step", "run", "plan", "check", "readout", "cost", "drive", "complete", "to_six", "to_five"];
 
 /// The numbers that random inputs of each call have to reach.
 pub const NUMBERS: [&[u32]; CALLS] = [
@@ -31,10 +33,12 @@ pub const NUMBERS: [&[u32]; CALLS] = [
     &[0, 1, 2, 3, 4, 5, 7],
     &[0, 1, 2, 3, 4, 5, 10, 12],
     &[0, 9, 10, 11, 13, 14],
+    &[0, 9, 10, 12],
+    &[0, 9, 10, 12, 16],
 ];
 
 /// How many fields each call returns besides its number.
-const FIELDS: [usize; CALLS] = [1, 1, 2, 3, 0, 1, 1, 1, 1, 1];
+const FIELDS: [usize; CALLS] = [1, 1, 2, 3, 0, 1, 1, 1, 1, 1, 1, 1];
 
 impl Call {
     /// The call's place in the lists above.
@@ -50,6 +54,8 @@ impl Call {
             Call::Cost { .. } => 7,
             Call::Drive { .. } => 8,
             Call::Complete { .. } => 9,
+            Call::ToSix { .. } => 10,
+            Call::ToFive { .. } => 11,
         }
     }
 
@@ -57,13 +63,14 @@ impl Call {
         FIELDS[self.index()]
     }
 
-    /// The table of a step, a run, a plan or a completion.
+    /// The table of a step, a run, a plan or a completion, and the target of a conversion.
     pub fn into_table(self) -> Vec<u32> {
         match self {
             Call::Step { table }
             | Call::Run { table, .. }
             | Call::Plan { table, .. }
             | Call::Complete { table, .. } => table,
+            Call::ToSix { target, .. } | Call::ToFive { target, .. } => target,
             _ => Vec::new(),
         }
     }

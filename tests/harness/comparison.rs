@@ -8,7 +8,7 @@ use crate::{proved, unproved};
 const BEFORE: u64 = 0x0123_4567_89AB_CDEF;
 
 /// How many numbers there are, with 0.
-const ALL_NUMBERS: usize = 16;
+const ALL_NUMBERS: usize = 17;
 
 /// How many failures are printed in full.
 const PRINTED: usize = 5;

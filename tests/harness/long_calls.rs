@@ -6,7 +6,7 @@ use crate::call::Call;
 use crate::comparison::Comparison;
 use crate::fields::Field;
 use crate::random::Random;
-use crate::tables::{clause_of, length, table, MAX_WEIGHT, ROW_WORDS};
+use crate::tables::{clause_of, length, respaced, table, Form, MAX_WEIGHT, ROW_WORDS};
 
 const ENTRIES: usize = 4_096;
 const ROWS: usize = 4_096;
@@ -55,6 +55,7 @@ pub fn rows_round(random: &mut Random, comparison: &mut Comparison) {
     comparison.make(random, Call::Encode { instance: field.instance(), table });
     full_table(random, comparison);
     all_falsified(random, comparison);
+    full_conversions(random, comparison);
 }
 
 /// Calls on a table that one step fills to the last row or beyond, or that has one row too many.
@@ -84,6 +85,18 @@ fn all_falsified(random: &mut Random, comparison: &mut Comparison) {
         let (table, k) = (table.clone(), 3 - fixed.len());
         comparison.make(random, Call::Complete { table, k, fixed, target: vec![1; 3] });
     }
+}
+
+/// Conversions of as many rows as there may be, one less or one more, into targets a word short, just long enough or longer.
+fn full_conversions(random: &mut Random, comparison: &mut Comparison) {
+    let count = random.pick(&[ROWS - 1, ROWS, ROWS + 1]);
+    let rows: Vec<([u32; 3], u64)> = (0..count as u32).map(|at| ([0, 1 + at / 254, 1 + at % 254], 1)).collect();
+    let six = table_of(&rows, count + random.below(2));
+    let (wide, narrow) = (Form::Six.length(3, count) - 1 + random.below(3), Form::Five.length(3, count) - 1 + random.below(3));
+    let call = Call::ToSix { source: respaced(&six, Form::Six), target: random.words(wide) };
+    comparison.make(random, call);
+    let call = Call::ToFive { source: six, target: random.words(narrow) };
+    comparison.make(random, call);
 }
 
 fn rows_after_a_step(rows: &[([u32; 3], u64)]) -> usize {

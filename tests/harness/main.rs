@@ -7,6 +7,7 @@ mod call;
 mod check_calls;
 mod comparison;
 mod completions;
+mod conversions;
 mod damage;
 mod drive_calls;
 mod driver;
@@ -33,12 +34,14 @@ const ENTRIES_STRIDE: u64 = 400;
 const STEPS_STRIDE: u64 = 100;
 const ROWS_STRIDE: u64 = 4_000;
 
-/// A call of each group, by its index: of inputs, of tables (three), of the checker, of the driver, of completions.
+/// A call of each group, by its index: of inputs, of tables (three), of the checker, of the driver, of completions, of
+/// conversions (two).
 const INPUT_CALL: usize = 0;
 const TABLE_CALLS: [usize; 3] = [2, 3, 4];
 const CHECK_CALL: usize = 5;
 const DRIVE_CALL: usize = 8;
 const COMPLETE_CALL: usize = 9;
+const CONVERSIONS: [usize; 2] = [10, 11];
 
 struct Options {
     cases: usize,
@@ -79,6 +82,9 @@ fn make_round(comparison: &mut Comparison, seed: u64, round: u64, cases: usize) 
     }
     if comparison.made(COMPLETE_CALL) < cases {
         completions::round(&mut random(7), comparison);
+    }
+    if CONVERSIONS.iter().any(|&index| comparison.made(index) < cases) {
+        conversions::round(&mut random(8), comparison);
     }
     if round % ENTRIES_STRIDE == 0 {
         long_calls::entries_round(&mut random(3), comparison);

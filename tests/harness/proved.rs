@@ -42,6 +42,8 @@ fn made_with(call: &mut Call, answer: &mut [u64]) -> Made {
         Call::Complete { table, k, fixed, target } => {
             on_bytes(target, |target| abi::complete(table, *k, fixed, target, answer))
         }
+        Call::ToSix { source, target } => on_words(target, |target| abi::to_six(source, target, answer)),
+        Call::ToFive { source, target } => on_words(target, |target| abi::to_five(source, target, answer)),
         Call::Drive { instance, table, calls, derivation, target } => {
             drive(instance, table, calls, derivation, target, answer)
         }

@@ -6,7 +6,7 @@ use crate::completions::completion;
 use crate::fields::Field;
 use crate::random::Random;
 use crate::table_damage;
-use crate::tables::{any_rows, encoded};
+use crate::tables::{any_rows, encoded, Form};
 
 const LIMITS: [usize; 8] = [0, 1, 2, 5, 30, 30, 200, usize::MAX];
 const SLICES: [usize; 8] = [0, 1, 3, 20, 20, 60, 200, 200];
@@ -15,7 +15,7 @@ pub fn round(random: &mut Random, comparison: &mut Comparison) {
     let field = Field::any(random);
     let mut table = if random.percent(60) { encoded(random, &field) } else { any_rows(random, &field.sizes, 14) };
     if random.percent(25) {
-        table = table_damage::damaged(random, table);
+        table = table_damage::damaged(random, table, Form::Six);
     }
     for _ in 0..random.between(1, 7) {
         let call = any_call(random, table, &field);
@@ -23,7 +23,8 @@ pub fn round(random: &mut Random, comparison: &mut Comparison) {
     }
 }
 
-fn any_call(random: &mut Random, table: Vec<u32>, field: &Field) -> Call {
+/// A step, a run, a plan or a completion.
+pub fn any_call(random: &mut Random, table: Vec<u32>, field: &Field) -> Call {
     match random.below(4) {
         0 => Call::Step { table },
         1 => {

@@ -1,4 +1,4 @@
-//! Random tables: encoded instances in slices around the needed length, and rows of any signs and weights.
+//! Random tables: encoded instances in slices around the needed length, and rows of any signs and weights, of six words or five.
 
 use plain::words::{payload, word, HEAD, HIGH_WEIGHT, PAYLOAD_BITS, ROW_COUNT, SIGNS, SIZE, WEIGHT};
 
@@ -25,9 +25,55 @@ const HEAVY: [u64; 12] = [
     MAX_WEIGHT,
 ];
 
-/// The length of a slice with room for so many rows.
+/// The form of a table's rows, by the words of each; last year's have five.
+#[derive(Clone, Copy, PartialEq)]
+pub enum Form {
+    Five,
+    Six,
+}
+
+impl Form {
+    pub fn row_words(self) -> usize {
+        match self {
+            Form::Five => 5,
+            Form::Six => ROW_WORDS,
+        }
+    }
+
+    pub fn other(self) -> Form {
+        match self {
+            Form::Five => Form::Six,
+            Form::Six => Form::Five,
+        }
+    }
+
+    /// The length of a slice with room for so many rows of this form.
+    pub fn length(self, variables: usize, rows: usize) -> usize {
+        variables + 2 + self.row_words() * rows
+    }
+}
+
+/// The length of a slice with room for so many rows of six words.
 pub fn length(variables: usize, rows: usize) -> usize {
-    variables + 2 + ROW_WORDS * rows
+    Form::Six.length(variables, rows)
+}
+
+/// The numbers of variables and of rows that the words of a valid table tell.
+pub fn counts(table: &[u32]) -> (usize, usize) {
+    let variables = payload(table[0]) as usize;
+    (variables, payload(table[variables + 1]) as usize)
+}
+
+/// A valid table as if its rows had the other form: the last word of each is left out, or a high word of 0 put behind it. Where
+/// no weight has high bits, that is the table in the other form.
+pub fn respaced(table: &[u32], form: Form) -> Vec<u32> {
+    let (variables, rows) = counts(table);
+    let (start, end) = (form.length(variables, 0), form.length(variables, rows));
+    let rows = table[start..end].chunks(form.row_words()).flat_map(|row| match form {
+        Form::Five => [row, &[word(HIGH_WEIGHT, 0)]].concat(),
+        Form::Six => row[..row.len() - 1].to_vec(),
+    });
+    [&table[..start], &rows.collect::<Vec<u32>>(), &table[end..]].concat()
 }
 
 /// The number of rows of a field's encoding.

@@ -11,6 +11,8 @@ pub fn made(call: &mut Call, answer: &mut [u64]) -> u32 {
     let (number, fields) = match call {
         Call::Make { sheet, target } => one(plain::make_instance(sheet, target).map(|written| written as u64)),
         Call::Encode { instance, table } => one(plain::encode(instance, table).map(|rows| rows as u64)),
+        Call::ToSix { source, target } => one(plain::to_six(source, target).map(|rows| rows as u64)),
+        Call::ToFive { source, target } => one(plain::to_five(source, target).map(|rows| rows as u64)),
         Call::Step { table } => stepped(plain::step(table)),
         Call::Run { table, limit, derivation } => ran(plain::run(table, *limit, derivation)),
         Call::Plan { table, target } => (plain::plan(table, target).map_or_else(Refusal::number, |()| 0), vec![]),

@@ -1,7 +1,8 @@
-/* Prints what the header defines, and tries tables of exactly as many words as it says and of one fewer, completions, and
- * forbidden combinations. */
+/* Prints what the header defines, and tries tables of exactly as many words as it says and of one fewer, completions,
+ * forbidden combinations, and conversions. */
 #include <stdio.h>
 #include <stdlib.h>
+#include <string.h>
 
 #include "gotalhim.h"
 
@@ -29,14 +30,17 @@ static void print_values(void)
     VALUE(GOTALHIM_PAIR_LEFT);
     VALUE(GOTALHIM_BAD_FIXED);
     VALUE(GOTALHIM_FORBIDDEN);
+    VALUE(GOTALHIM_WEIGHT_TOO_WIDE);
     VALUE(GOTALHIM_DONE);
     VALUE(GOTALHIM_PAUSED);
     VALUE(GOTALHIM_STOPPED);
     VALUE(GOTALHIM_MAX_VARIABLES);
     VALUE(GOTALHIM_MAX_ROWS);
     VALUE(GOTALHIM_ROW_WORDS);
+    VALUE(GOTALHIM_FIVE_ROW_WORDS);
     VALUE(GOTALHIM_FORBIDDEN_WEIGHT);
     VALUE(GOTALHIM_MAX_WEIGHT);
+    VALUE(GOTALHIM_FIVE_MAX_WEIGHT);
     printf("GOTALHIM_VERSION %s\n", GOTALHIM_VERSION);
 }
 
@@ -89,20 +93,17 @@ static uint32_t completed(uint32_t variables, size_t k, const uint8_t *fixed, si
     return gotalhim_complete(table, words, k, fixed, fixed_length, plan, variables, cost, 1);
 }
 
-/* Whether values are completed as the header says: the first variable gets its value 1, or costs 1 where it is fixed at 0. */
-static int completes(uint32_t variables)
+/* Whether values from k on are completed as the header says: the first variable gets its value 1, or costs 1 where it is
+ * fixed at 0. */
+static int completes(uint32_t variables, uint32_t k)
 {
     const uint8_t fixed[GOTALHIM_MAX_VARIABLES + 1] = {0};
-    for (size_t k = 0; k <= variables; k++) {
-        uint8_t plan[GOTALHIM_MAX_VARIABLES] = {9};
-        uint64_t cost = 9;
-        if (completed(variables, k, fixed, variables - k, plan, &cost) != GOTALHIM_GOOD
-            || cost != (k == 0) || plan[0] != (k != 0)
-            || completed(variables, k, fixed, variables - k + 1, plan, &cost) != GOTALHIM_BAD_FIXED || cost != 0
-            || completed(variables, k + variables + 1, fixed, 0, plan, &cost) != GOTALHIM_BAD_FIXED)
-            return 0;
-    }
-    return 1;
+    uint8_t plan[GOTALHIM_MAX_VARIABLES] = {9};
+    uint64_t cost = 9;
+    return completed(variables, k, fixed, variables - k, plan, &cost) == GOTALHIM_GOOD
+        && cost == (k == 0) && plan[0] == (k != 0)
+        && completed(variables, k, fixed, variables - k + 1, plan, &cost) == GOTALHIM_BAD_FIXED && cost == 0
+        && completed(variables, k + variables + 1, fixed, 0, plan, &cost) == GOTALHIM_BAD_FIXED;
 }
 
 /* Writes an instance whose first variable has so many forbidden values, from value 0 on, which costs 1 beside; returns its
@@ -139,48 +140,101 @@ static int forbids(uint32_t variables, uint32_t forbidden)
                == GOTALHIM_GOOD;
 }
 
-/* Whether a plan with two forbidden entries at each variable costs as many times the cost of one, in 64 bits. */
-static int adds(uint32_t variables)
+/* Whether a plan with so many forbidden entries at each variable costs as many times the cost of one, in 64 bits. */
+static int adds(uint32_t variables, uint32_t times)
 {
     uint32_t instance[INSTANCE_WORDS];
     const uint8_t plan[GOTALHIM_MAX_VARIABLES] = {0};
     uint64_t cost = 9;
     size_t length = write_instance(instance, variables, 0);
-    for (uint32_t entry = 0; entry < 2 * variables; entry++) {
-        instance[length++] = 3u << 28 | (entry / 2) << 8;
+    for (uint32_t entry = 0; entry < times * variables; entry++) {
+        instance[length++] = 3u << 28 | (entry / times) << 8;
         instance[length++] = 11u << 28;
     }
     return gotalhim_cost(instance, length, plan, variables, &cost, 1) == GOTALHIM_GOOD
-        && cost == 2 * variables * GOTALHIM_FORBIDDEN_WEIGHT;
+        && cost == times * variables * GOTALHIM_FORBIDDEN_WEIGHT;
+}
+
+/* The number of a conversion in a target of so many words; none that there is, where it answers other rows than it should. */
+static uint32_t converted(uint32_t (*convert)(const uint32_t *, size_t, uint32_t *, size_t, uint64_t *, size_t),
+                          const uint32_t *source, size_t words, uint32_t *target, size_t target_words, uint64_t rows)
+{
+    uint64_t answer = 99;
+    uint32_t number = convert(source, words, target, target_words, &answer, 1);
+    return answer == (number == GOTALHIM_GOOD ? rows : 0) ? number : UINT32_MAX;
+}
+
+/* Whether the macros say how many words a table takes in either form, by conversions there and back in targets of so many
+ * words and of one fewer. */
+static int turns(uint32_t variables, uint32_t rows)
+{
+    uint32_t instance[INSTANCE_WORDS], *six, *five, *again;
+    size_t words = GOTALHIM_TABLE_WORDS(variables, rows), fewer = GOTALHIM_FIVE_TABLE_WORDS(variables, rows);
+    uint32_t shorter = rows == 0 ? GOTALHIM_TARGET_TOO_SHORT : GOTALHIM_TABLE_FULL;
+    uint32_t mistaken = rows == 0 ? GOTALHIM_GOOD : GOTALHIM_BAD_TABLE;
+    uint64_t encoded_rows;
+    int good;
+
+    six = malloc(3 * words * sizeof *six);
+    if (six == NULL)
+        return 0;
+    five = six + words;
+    again = five + words;
+    gotalhim_encode(instance, write_instance(instance, variables, rows), six, words, &encoded_rows, 1);
+    good = converted(gotalhim_to_five, six, words, five, fewer, rows) == GOTALHIM_GOOD
+        && converted(gotalhim_to_five, six, words, again, fewer - 1, rows) == shorter
+        && converted(gotalhim_to_six, six, words, again, words, rows) == mistaken
+        && converted(gotalhim_to_five, five, fewer, again, words, rows) == mistaken
+        && converted(gotalhim_to_six, five, fewer, again, words - 1, rows) == shorter
+        && converted(gotalhim_to_six, five, fewer, again, words, rows) == GOTALHIM_GOOD
+        && memcmp(again, six, words * sizeof *six) == 0;
+    free(six);
+    return good
+        && GOTALHIM_FIVE_TABLE_ROWS(variables, fewer) == rows
+        && GOTALHIM_FIVE_TABLE_ROWS(variables, fewer + GOTALHIM_FIVE_ROW_WORDS - 1) == rows
+        && GOTALHIM_FIVE_TABLE_ROWS(variables, fewer - 1) == (rows == 0 ? 0 : rows - 1);
+}
+
+/* Whether a row's weight is turned into five words up to the greatest that the header names: a forbidden value with a cost
+ * beside comes to it, or to one more, which is too wide. */
+static int narrows(uint32_t variables, uint32_t more)
+{
+    uint32_t instance[INSTANCE_WORDS], six[GOTALHIM_TABLE_WORDS(GOTALHIM_MAX_VARIABLES, 1)];
+    uint32_t five[GOTALHIM_FIVE_TABLE_WORDS(GOTALHIM_MAX_VARIABLES, 1)];
+    size_t words = GOTALHIM_TABLE_WORDS(variables, 1), fewer = GOTALHIM_FIVE_TABLE_WORDS(variables, 1);
+    size_t length = write_forbidden(instance, variables, 1);
+    uint64_t rows;
+    instance[length++] = 3u << 28;
+    instance[length++] = 4u << 28 | (uint32_t)(GOTALHIM_FIVE_MAX_WEIGHT - GOTALHIM_FORBIDDEN_WEIGHT - 1 + more);
+    return gotalhim_encode(instance, length, six, words, &rows, 1) == GOTALHIM_GOOD && rows == 1
+        && converted(gotalhim_to_five, six, words, five, fewer, 1) == (more ? GOTALHIM_WEIGHT_TOO_WIDE : GOTALHIM_GOOD)
+        && converted(gotalhim_to_five, six, words, five, fewer - 1, 1)
+               == (more ? GOTALHIM_WEIGHT_TOO_WIDE : GOTALHIM_TABLE_FULL);
+}
+
+/* Whether a trial holds for every number of variables with each number up to so many and so many for each variable; what
+ * does not is printed. */
+static int each(int (*holds)(uint32_t, uint32_t), const char *what, uint32_t most, uint32_t for_each_variable)
+{
+    for (uint32_t variables = 1; variables <= GOTALHIM_MAX_VARIABLES; variables++)
+        for (uint32_t number = 0; number <= most + for_each_variable * variables; number++)
+            if (!holds(variables, number)) {
+                printf("%s %u over %u variables: does not agree\n", what, (unsigned)number, (unsigned)variables);
+                return 0;
+            }
+    return 1;
 }
 
 int main(void)
 {
     print_values();
-    for (uint32_t variables = 1; variables <= GOTALHIM_MAX_VARIABLES; variables++)
-        for (uint32_t rows = 0; rows <= variables * VALUES; rows++)
-            if (!agrees(variables, rows)) {
-                printf("a table of %u rows over %u variables does not agree\n", (unsigned)rows, (unsigned)variables);
-                return 1;
-            }
-    for (uint32_t variables = 1; variables <= GOTALHIM_MAX_VARIABLES; variables++)
-        if (!completes(variables)) {
-            printf("a completion over %u variables does not agree\n", (unsigned)variables);
-            return 1;
-        }
-    for (uint32_t variables = 1; variables <= GOTALHIM_MAX_VARIABLES; variables++)
-        for (uint32_t forbidden = 0; forbidden <= VALUES; forbidden++)
-            if (!forbids(variables, forbidden)) {
-                printf("%u forbidden values over %u variables do not agree\n", (unsigned)forbidden, (unsigned)variables);
-                return 1;
-            }
-    for (uint32_t variables = 1; variables <= GOTALHIM_MAX_VARIABLES; variables++)
-        if (!adds(variables)) {
-            printf("forbidden entries over %u variables do not add up\n", (unsigned)variables);
-            return 1;
-        }
+    if (!each(agrees, "rows of a table", 0, VALUES) || !each(completes, "completions from", 0, 1)
+        || !each(forbids, "forbidden values", VALUES, 0) || !each(adds, "forbidden entries of each variable", 2, 0)
+        || !each(turns, "rows of a converted table", 0, VALUES) || !each(narrows, "weights too wide by", 1, 0))
+        return 1;
     for (size_t words = 0; words < 30000; words += 100)
-        printf("rows of %lu words: %lu %lu\n", (unsigned long)words, (unsigned long)GOTALHIM_TABLE_ROWS(1, words),
-               (unsigned long)GOTALHIM_TABLE_ROWS(12, words));
+        printf("rows of %lu words: %lu %lu, of five each %lu %lu\n", (unsigned long)words,
+               (unsigned long)GOTALHIM_TABLE_ROWS(1, words), (unsigned long)GOTALHIM_TABLE_ROWS(12, words),
+               (unsigned long)GOTALHIM_FIVE_TABLE_ROWS(1, words), (unsigned long)GOTALHIM_FIVE_TABLE_ROWS(12, words));
     return 0;
 }

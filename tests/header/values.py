@@ -1,18 +1,19 @@
-"""What the header defines, against the reference: numbers, outcomes, limits, and the capacity of a table."""
+"""What the header defines, against the reference: numbers, outcomes, limits, and the capacity of a table of either form."""
 
 import re
 
 from reference import answers, limits
+from reference.forms import FIVE, SIX
 from reference.tables import capacity
 
 # The outcomes of a run have no numbers in the reference, but the comparisons with it have these.
 OUTCOMES = {"DONE": 0, "PAUSED": 1, "STOPPED": 2}
-LIMITS = ["MAX_VARIABLES", "MAX_ROWS", "ROW_WORDS", "FORBIDDEN_WEIGHT", "MAX_WEIGHT"]
+LIMITS = ["MAX_VARIABLES", "MAX_ROWS", "ROW_WORDS", "FIVE_ROW_WORDS", "FORBIDDEN_WEIGHT", "MAX_WEIGHT", "FIVE_MAX_WEIGHT"]
 VERSION = ["VERSION_MAJOR", "VERSION_MINOR", "VERSION_PATCH"]
 # Names with a value of their own, not those of macros with arguments.
 DEFINED = re.compile(r"^(?:#define|   ) GOTALHIM_(\w+) ", re.MULTILINE)
 PRINTED = re.compile(r"^GOTALHIM_(\w+) (\S+)$", re.MULTILINE)
-CAPACITY = re.compile(r"^rows of (\d+) words: (\d+) (\d+)$", re.MULTILINE)
+CAPACITY = re.compile(r"^rows of (\d+) words: (\d+) (\d+), of five each (\d+) (\d+)$", re.MULTILINE)
 LENGTHS = 300
 
 
@@ -31,7 +32,7 @@ def run(checks, header, printed):
     checks.same("names and values", {name: int(value) for name, value in values.items()}, due())
     rows = CAPACITY.findall(printed)
     checks.same("lengths tried", len(rows), LENGTHS)
-    for words, one, twelve in rows:
-        checks.same(f"the rows of {words} words", [int(one), int(twelve)],
-                    [max(capacity(variables, int(words)), 0) for variables in (1, 12)])
+    for words, *room in rows:
+        checks.same(f"the rows of {words} words", [int(count) for count in room],
+                    [max(capacity(variables, int(words), form), 0) for form in (SIX, FIVE) for variables in (1, 12)])
     return stack

@@ -1,4 +1,5 @@
-"""Lists of encodings, steps, runs, plans and completions through the proved library against the reference, word for word."""
+"""Lists of encodings, steps, runs, plans, completions and conversions through the proved library against the reference, word for
+word."""
 
 import itertools
 import random
@@ -10,6 +11,7 @@ from different import require
 from reference import fields
 from reference.answers import BAD_TABLE
 from reference.clauses import full
+from reference.forms import FIVE, SIX
 from reference.limits import FORBIDDEN_WEIGHT, MAX_WEIGHT, ROW_WORDS
 from reference.tables import Row, read_table, table_words
 
@@ -30,7 +32,9 @@ DUE = ([("encode", number) for number in (0, 1, 2, 3, 4, 5, 10, 12)]
        + [("step", "done"), ("step", "stepped"), ("step", 9), ("step", 11), ("step", 12)]
        + [("run", "done"), ("run", "paused"), ("run", 9), ("run", 11), ("run", 12)]
        + [("plan", number) for number in (0, 9, 10, 13, 15)]
-       + [("complete", number) for number in (0, 9, 10, 11, 13, 14)])
+       + [("complete", number) for number in (0, 9, 10, 11, 13, 14)]
+       + [("to_six", number) for number in (0, 9, 10, 12)]
+       + [("to_five", number) for number in (0, 9, 10, 12, 16)])
 reached = Counter()
 
 
@@ -81,6 +85,34 @@ def complete(table, k, fixed, target, answer):
          (expected.number, noted(answer, [expected.cost]), expected.target))
 
 
+def to_six(source, target, answer):
+    return converted("to_six", reference.to_six(source, target), proved.to_six(source, target, answer), answer)
+
+
+def to_five(source, target, answer):
+    return converted("to_five", reference.to_five(source, target), proved.to_five(source, target, answer), answer)
+
+
+def converted(name, expected, got, answer):
+    same(name, expected.number, got, (expected.number, noted(answer, [expected.rows]), expected.target))
+    return expected
+
+
+def there_and_back(table, variables, chance):
+    """To five words and to six again, each in a target that may have no room; the table as it was, where one is refused."""
+    def target(form):
+        few = fields.table_length(variables, chance.randrange(6), chance.randrange(5), form)
+        return [4] * chance.choice([variables + 1, few, len(table), len(table), 2 * len(table)])
+    answer = [77] * chance.choice([0, 1, 2])
+    five = to_five(table, target(FIVE), answer)
+    to_six(table, target(SIX), answer)
+    if five.number:
+        return table
+    to_five(five.target, target(FIVE), answer)
+    six = to_six(five.target, target(SIX), answer)
+    return table if six.number else six.target
+
+
 def random_completion(table, variables, chance):
     """Any k, at times one too high, and about as many small values as are left."""
     k = chance.choice(list(range(variables + 1)) * 3 + [variables + 1, 2 ** 64 - 1])
@@ -92,11 +124,13 @@ def random_completion(table, variables, chance):
 def one_call(table, variables, chance):
     """Makes one random call on both sides; the table after it."""
     choice, answer = chance.random(), [77] * chance.choice([0, 1, 2, 3, 3, 5])
-    if choice < 0.4:
+    if choice < 0.35:
         return step(table, answer)
-    if choice < 0.7:
+    if choice < 0.6:
         limit, room = chance.choice([0, 1, 2, 3, 40, 2 ** 64 - 1]), chance.choice([0, 1, 3, 3, 60])
         return run_steps(table, limit, [9] * room, answer)
+    if choice < 0.7:
+        return there_and_back(table, variables, chance)
     if choice < 0.85:
         plan(table, [200] * chance.choice([0, variables - 1, variables, variables, variables + 2]))
     else:
@@ -206,11 +240,13 @@ def twelve_variables(chance, most_values, reach):
 
 
 def every_call(table, variables):
-    """A step call, a run, a plan call and a completion on the same table."""
+    """A step call, a run, a plan call, a completion and conversions on the same table."""
     step(table, [77, 77])
     run_steps(table, 3, [9] * 4, [77, 77, 77])
     plan(table, [9] * variables)
     complete(table, 1, [0] * (variables - 1), [9] * variables, [77])
+    five = to_five(table, [4] * len(table), [77])
+    to_six(five.target, [4] * len(table), [77])
 
 
 def at_the_bounds(chance):

@@ -99,6 +99,12 @@ class Completed(NamedTuple):
     target: list
 
 
+class Converted(NamedTuple):
+    number: int
+    answer: list        # the rows
+    target: list
+
+
 class Readout(NamedTuple):
     number: int
     answer: list        # the metres
@@ -135,6 +141,21 @@ def complete_call(table, k, fixed, target, answer):
     require(source.content() == list(table), "a completion wrote to the table")
     require(values.content() == list(fixed), "a completion wrote to the fixed values")
     return Completed(number, cost.content(), lent.content())
+
+
+def to_six(source, target, answer):
+    return converted("gotalhim_to_six", source, target, answer)
+
+
+def to_five(source, target, answer):
+    return converted("gotalhim_to_five", source, target, answer)
+
+
+def converted(name, table, target, answer):
+    source, lent, fields = Slice(WORD, table), Slice(WORD, target), Slice(FIELD, answer)
+    number = call(name, [source, lent, fields])
+    require(source.content() == list(table), "a conversion wrote to its source")
+    return Converted(number, fields.content(), lent.content())
 
 
 def readout_call(sheet, plan, variable, easting, northing, answer):

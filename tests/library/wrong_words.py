@@ -10,12 +10,14 @@ import readouts
 import roots
 from different import Different, require
 from reference import fields, words
+from reference.forms import FIVE
 
 SHEET = fields.sheet([[(0, 0)], [(300, 400), (600, 800)]], [([(1, 0)], 9)])
 SIZES, ENTRIES = [2], [([(0, 0)], 3), ([(0, 1)], 1)]
 INSTANCE = fields.instance(SIZES, ENTRIES)
 TABLE = fields.table(SIZES, "2:3 1:1", fields.table_length(1, 3))
 SETTLED = fields.table(SIZES, "2:2 0:1", fields.table_length(1, 3))
+FIVE_WORDS = fields.table(SIZES, "2:3 1:1", fields.table_length(1, 3, form=FIVE), FIVE)
 
 # For each call a good comparison, and which of its arguments are slices that it compares.
 COMPARISONS = {
@@ -27,6 +29,8 @@ COMPARISONS = {
     "run": (lambda: lists.run_steps(TABLE, 5, [9] * 4, [77] * 3), [0, 2, 3]),
     "plan": (lambda: lists.plan(SETTLED, [9]), [0, 1]),
     "complete": (lambda: lists.complete(SETTLED, 0, [0], [9], [77]), [0, 2, 3, 4]),
+    "to_six": (lambda: lists.to_six(FIVE_WORDS, [4] * len(TABLE), [77]), [0, 1, 2]),
+    "to_five": (lambda: lists.to_five(TABLE, [4] * len(FIVE_WORDS), [77]), [0, 1, 2]),
 }
 
 

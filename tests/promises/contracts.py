@@ -1,7 +1,7 @@
-"""What PROMISES.md says of contracts and of demand 3's record, held to the sources.
+"""What PROMISES.md says of contracts and of demand 3's records, held to the sources.
 
 A function cited for its contract has one. A public call, whose clause has a name, asks nothing, and every exported call is one. The fields that
-the document cites of demand 3's record are fields, and it cites all of them.
+the document cites of demand 3's records are fields, and it cites all of them.
 """
 
 import re
@@ -10,7 +10,8 @@ from sources import FUNCTION, ROOT
 
 CITED = re.compile(r"contracts? of ((?:`[\w:]+`(?: \([^)]*\))?(?:, and |, | and )?)+)")
 NAMED = re.compile(r"ensures \w+ \{")
-RECORD, HEADING = re.compile(r"^pub record Upheld .*?(?=^\S)", re.M | re.S), "| sentence | field of `Upheld` |"
+RECORDS = re.compile(r"^pub record (?:Kept|Upheld|UpheldFive) .*?(?=^\S)", re.M | re.S)
+HEADING = "| sentence | field of `Upheld`, of its `kept`, or of `UpheldFive` |"
 
 
 def contract_at(lines):
@@ -64,13 +65,13 @@ def call_faults(functions):
 
 
 def field_faults(text):
-    record = RECORD.search((ROOT / "crates/calls/specs/Demand.antt").read_text()).group()
-    fields = set(re.findall(r"^  pub (\w+) :", record, re.M))
+    records = RECORDS.findall((ROOT / "crates/calls/specs/Demand.antt").read_text())
+    fields = set(re.findall(r"^  pub (\w+) :", "".join(records), re.M))
     rows = [row.split("|")[2] for row in text.split(HEADING)[1].split("\n\n")[0].split("\n")[2:]]
     firsts = {re.search(r"`(\w+)`", row).group(1) for row in rows}
-    yield from (f"{name} is cited as a field of Upheld and is none" for name in sorted(firsts - fields))
+    yield from (f"{name} is cited as a field of demand 3 and is none" for name in sorted(firsts - fields))
     cited = set(re.findall(r"`(\w+)`", " ".join(rows)))
-    yield from (f"{name} is a field of Upheld and no row cites it" for name in sorted(fields - cited))
+    yield from (f"{name} is a field of demand 3 and no row cites it" for name in sorted(fields - cited))
 
 
 def cited_faults(text):

@@ -3,7 +3,7 @@
 import os
 import subprocess
 
-from checks import TOOL
+from checks import SHEET, path_of
 from examples import EXAMPLES, content
 from reference.fields import as_bytes, forbidden, sheet
 from sheets.usage import USAGE
@@ -59,9 +59,9 @@ def season_misuses():
         yield ["season", *names]
 
 
-def written_to_full(*arguments):
+def written_to_full(*arguments, tool=SHEET):
     """Exit status and standard error where the standard output takes no byte, but has a buffer before it; files are examples."""
     environment = {name: value for name, value in os.environ.items() if name != "PYTHONUNBUFFERED"}
     with open("/dev/full", "wb") as full:
-        done = subprocess.run([TOOL, *arguments], stdout=full, stderr=subprocess.PIPE, cwd=EXAMPLES, env=environment)
+        done = subprocess.run([path_of(tool), *arguments], stdout=full, stderr=subprocess.PIPE, cwd=EXAMPLES, env=environment)
     return done.returncode, done.stderr.decode()

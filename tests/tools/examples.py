@@ -1,7 +1,10 @@
-"""The examples: their words made anew, and their plans anew by the reference program; the seasons of them and their figures."""
+"""The examples: their words made anew, and their plans anew by the reference program; the seasons of them and their figures; a
+table of last year's and its text."""
 
-from checks import ROOT, called
-from reference import printed_plan, season_line
+from checks import ROOT, TABLE, called
+from reference import encode, make_instance, printed_plan, run_call, season_line, to_five, to_six
+from reference.fields import as_bytes
+from reference.planning import words_of
 
 EXAMPLES = ROOT / "examples"
 README = ROOT / "README.md"
@@ -22,6 +25,7 @@ def run(checks):
     checks.same("examples/corner.plan", content("corner.plan"), CORNER_PLAN)
     check_season(checks)
     check_shown_season(checks)
+    check_table(checks)
 
 
 def content(name):
@@ -33,6 +37,20 @@ def check_example(checks, name):
     checks.answers(["words", f"examples/{name}.txt"], b"", sheet)
     checks.same(f"the plan of examples/{name}.sheet", printed_plan(sheet), plan)
     checks.same(f"the first line of examples/{name}.plan", plan.split(b"\n")[0], b"REFUSED 15" if name == CULVERT else b"PLAN")
+
+
+def check_table(checks):
+    """The corner's table before its one step, in five-word rows with room for four; behind a conversion, its step leads to the
+    plan's cost."""
+    for ending in ["table", "rows"]:
+        checks.same(f"examples/*.{ending}", [path.stem for path in EXAMPLES.glob(f"*.{ending}")], ["corner"])
+    checks.answers(["show", "examples/corner.table"], b"", content("corner.rows"), TABLE)
+    checks.answers(["make", "examples/corner.rows"], b"", content("corner.table"), TABLE)
+    made = make_instance(words_of(content("corner.sheet")), [0] * 100)
+    five = to_five(encode(made.target[:made.written], [0] * 24).table, [0] * 24).target
+    checks.same("examples/corner.table", content("corner.table"), as_bytes(five))
+    ran = run_call(to_six(five, [0] * 24).target, 9, [0] * 9)
+    checks.same("the run of examples/corner.table", (ran.outcome, ran.steps, ran.bound), ("done", 1, 10))
 
 
 def check_season(checks):

@@ -6,7 +6,7 @@ from checks import ROOT
 from reference import inputs
 from reference.answers import Refused
 from reference.planning import words_of
-from sheets.fault import Fault
+from common.fault import Fault
 from sheets.forms import text_to_words
 
 SPOILED = 1_000

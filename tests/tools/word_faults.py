@@ -6,7 +6,7 @@ import round_trips
 from reference import fields, inputs, make_instance, words
 from reference.answers import GOOD, Refused
 from reference.planning import words_of
-from sheets.fault import Fault
+from common.fault import Fault
 from sheets.words import read_words
 from text_faults import LONG_INSTANCE
 

@@ -1,21 +1,18 @@
 """The command: reads one file, writes the other form of its sheet, or one line that says what is wrong. Seasons have their own."""
 
-from .fault import Failure
+from common.command import status
+from common.fault import Failure
+from common.streams import name_of, naming, opened, write_out
+
 from .forms import refusal_of_words, text_to_words, words_to_text
 from .season_command import season_command
-from .streams import name_of, naming, opened, say, write_out
 from .usage import USAGE
 
 COMMANDS = {"words": text_to_words, "text": words_to_text, "why": refusal_of_words}
 
 
 def main(arguments):
-    try:
-        run(arguments)
-    except Failure as failure:
-        say(failure)
-        return 1
-    return 0
+    return status(run, arguments)
 
 
 def run(arguments):

@@ -2,11 +2,13 @@
 
 import re
 
-from .fault import Fault
+from common.fault import Fault
+from common.words import WORD_BYTES
+
 from .room import room_fault
 from .sheet import MAX_WORDS
 from .text import read_text, write_text
-from .words import WORD_BYTES, read_words, write_words
+from .words import read_words, write_words
 
 # So much of a file tells its form: one byte more than a sheet's words may have.
 TELLING = WORD_BYTES * MAX_WORDS + 1

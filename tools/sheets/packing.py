@@ -3,11 +3,13 @@
 import os
 import tempfile
 
-from .fault import Failure, Fault
+from common.fault import Failure, Fault
+from common.streams import name_of, naming, opened, say, write_out
+from common.words import WORD_BYTES, whole_words
+
 from .forms import TELLING, is_text, text_to_words
 from .season import LENGTH, MOST_WORDS, ONLY_FIRST, PIECE, PLANNED_SHEETS
-from .streams import name_of, naming, opened, say, write_out
-from .words import WORD_BYTES, whole_words
+from .words import CUT_WORD
 
 # A season of up to so many bytes is held in memory, a larger one in a temporary file.
 HELD = 1 << 24
@@ -38,7 +40,7 @@ def add_sheet(season, source):
         if size > WORD_BYTES * MOST_WORDS:
             raise Fault(f"word {MOST_WORDS}", f"a sheet of a season has at most {MOST_WORDS:,} words")
     season.seek(start)
-    season.write(LENGTH.pack(whole_words(size)))
+    season.write(LENGTH.pack(whole_words(size, CUT_WORD)))
     season.seek(0, os.SEEK_END)
 
 

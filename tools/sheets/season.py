@@ -3,8 +3,8 @@
 import itertools
 import struct
 
-from .fault import Fault
-from .words import WORD_BYTES
+from common.fault import Fault
+from common.words import WORD_BYTES
 
 LENGTH = struct.Struct("<I")
 MOST_WORDS = (1 << 32) - 1      # the highest length

@@ -2,12 +2,13 @@
 
 import itertools
 
-from .fault import Failure, Fault
+from common.fault import Failure, Fault
+from common.streams import name_of, naming, opened, write_out
+
 from .forms import refusal_of_words
 from .packing import pack
 from .season import PLANNED_SHEETS, packed_sheets
 from .sheet import MAX_WORDS
-from .streams import name_of, naming, opened, write_out
 from .unpacking import unpack
 from .usage import USAGE
 from .words import BAD_HEAD, too_long

@@ -2,9 +2,8 @@
 
 from typing import NamedTuple
 
-# Variables are document 01's stations, values its spots. What a laboratory reads says station and spot.
-MAX_VARIABLES = 12
-MAX_SIZE = 8
+from common.field import spot_fault
+
 MAX_COORDINATE = 1_000_000      # centimetres
 MAX_COST = 65_535
 MAX_ENTRIES = 4_096             # the legs counted first
@@ -37,13 +36,10 @@ def sizes_of(places):
 
 def binding_fault(sizes, before, variable, value):
     """Why an entry with the bindings `before` cannot go on with this one, or None where it can."""
-    if variable >= len(sizes):
-        return f"there is no station {variable}; the last one is {len(sizes) - 1}"
-    if value >= sizes[variable]:
-        return f"station {variable} has no spot {value}; its last one is {sizes[variable] - 1}"
-    if before and variable <= before[-1][0]:
-        return f"station {variable} comes after station {before[-1][0]}; the stations of a combination must rise"
-    return None
+    reason = spot_fault(sizes, variable, value)
+    if not reason and before and variable <= before[-1][0]:
+        reason = f"station {variable} comes after station {before[-1][0]}; the stations of a combination must rise"
+    return reason
 
 
 def leg_count(sizes):

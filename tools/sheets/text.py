@@ -16,17 +16,16 @@ Stations come first. Names, comments, blank lines and indentation have no words.
 
 import re
 
-from .fault import Fault
-from .sheet import (CLOSING_WORDS, FORBIDDEN, HEAD_WORDS, MAX_COORDINATE, MAX_COST, MAX_SIZE, MAX_VARIABLES, MAX_WORDS,
-                    SPOT_WORDS, STATION_WORDS, Entry, Sheet, binding_fault, entry_fault, instance_fault, sizes_of)
+from common.fault import Fault
+from common.field import MAX_SIZE, MAX_VARIABLES
+from common.lines import Lines
+
+from .sheet import (CLOSING_WORDS, FORBIDDEN, HEAD_WORDS, MAX_COORDINATE, MAX_COST, MAX_WORDS, SPOT_WORDS, STATION_WORDS, Entry,
+                    Sheet, binding_fault, entry_fault, instance_fault, sizes_of)
 
 # Nine digits are above every limit.
-NUMBER = re.compile("[0-9]{1,9}")
 METRES = re.compile(r"(-?)([0-9]{1,9})(?:\.([0-9]{1,2}))?")
 BINDING = re.compile("([0-9]{1,9})/([0-9]{1,9})")
-
-# Characters at which an editor may show a new line though the sheet has none: what follows would be lost in a comment.
-BREAK = re.compile("[\r\v\f\x1c-\x1e\x85\u2028\u2029]")
 
 
 def write_text(sheet):
@@ -54,37 +53,22 @@ def entry_text(entry):
 
 def read_text(text):
     draft = Draft()
-    for line in text.split("\n"):
-        draft.take_line(line)
+    draft.take_text(text)
     return draft.finished()
 
 
-class Draft:
-    """The sheet as far as its lines were read; a fault names the line read last."""
+class Draft(Lines):
+    """The sheet as far as its lines were read."""
 
     def __init__(self):
-        self.line = 0
+        super().__init__()
         self.station_line = 0   # of the last station
         self.places = []
         self.entries = []
         self.words = HEAD_WORDS
 
-    def refuse(self, reason):
-        raise Fault(f"line {self.line}", reason)
-
-    def take_line(self, line):
-        self.line += 1
-        line = line[:-1] if line.endswith("\r") else line
-        if BREAK.search(line):
-            self.refuse("a line ends with a line feed, or with a carriage return and a line feed; here another sign of a new line stands in it")
-        parts = line.split("#")[0].split()
-        if not parts:
-            return
-        takers = {"station": self.take_station, "spot": self.take_spot, "cost": self.take_cost,
-                  "forbidden": self.take_forbidden}
-        if parts[0] not in takers:
-            self.refuse(f"unknown word {parts[0]!r}; a line begins with {', '.join(takers)} or #")
-        takers[parts[0]](parts[1:])
+    def takers(self):
+        return {"station": self.take_station, "spot": self.take_spot, "cost": self.take_cost, "forbidden": self.take_forbidden}
 
     def take_station(self, parts):
         if len(parts) not in (1, 2):
@@ -154,20 +138,10 @@ class Draft:
         if self.places and not self.places[-1]:
             raise Fault(f"line {self.station_line}", f"station {len(self.places) - 1} has no spot")
 
-    def take_number(self, what, text, due, most):
-        """Numbers are written out for the reader's sake, since costs name them; they say nothing new."""
-        if self.whole_number(what, text, most - 1) != due:
-            self.refuse(f"{what} {text} where {what} {due} is due; they are numbered from 0 in order")
-
     def take_words(self, count):
         self.words += count
         if self.words > MAX_WORDS:
             self.refuse(f"more than {MAX_WORDS:,} words, the most that the planner takes")
-
-    def whole_number(self, what, text, highest):
-        if not NUMBER.fullmatch(text) or int(text) > highest:
-            self.refuse(f"{what} {text!r} is not a whole number from 0 to {highest}")
-        return int(text)
 
     def centimetres(self, what, text):
         parts = METRES.fullmatch(text)

@@ -2,11 +2,12 @@
 
 from pathlib import Path
 
-from .fault import Failure, Fault
+from common.fault import Failure, Fault
+from common.streams import name_of, naming, opened, say, write_all
+
 from .forms import TELLING, is_text, words_to_text
 from .season import ONLY_FIRST, PLANNED_SHEETS, packed_sheets
 from .sheet import MAX_WORDS
-from .streams import name_of, naming, opened, say, write_all
 from .words import too_long
 
 WORDS, TEXT = "sheet", "txt"

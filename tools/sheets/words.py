@@ -1,19 +1,12 @@
-"""Sheets as words: 32 bits, the top four the word's kind, the rest its payload; little-endian in a file.
+"""Sheets as words. Reading tests in the order of document 01, front to back, so that the fault named is the one that the planner
+refuses."""
 
-Reading tests in the order of document 01, front to back, so that the fault named is the one that the planner refuses.
-"""
+from common.fault import Fault
+from common.words import HEAD, PAYLOADS, SIZE, WORD_BYTES, Reader, packed, unpacked, whole_words, word
 
-import struct
+from .sheet import (FORBIDDEN, MAX_COORDINATE, MAX_COST, MAX_WORDS, Entry, Sheet, binding_fault, entry_fault, instance_fault,
+                    instance_surplus, sizes_of)
 
-from .fault import Fault
-from .sheet import (FORBIDDEN, MAX_COORDINATE, MAX_COST, MAX_SIZE, MAX_VARIABLES, MAX_WORDS, Entry, Sheet, binding_fault,
-                    entry_fault, instance_fault, instance_surplus, sizes_of)
-
-WORD_BYTES = 4
-PAYLOADS = 1 << 28
-
-HEAD = 1
-SIZE = 2        # document 01: station word
 BINDING = 3     # document 01: pair
 COST = 4
 EASTING = 8
@@ -33,10 +26,8 @@ COST_TOO_HIGH = 4
 TOO_MANY_ENTRIES = 5
 TOO_LONG = 10
 
-
-def word(kind, payload):
-    """A payload below zero is stored as two's complement."""
-    return kind * PAYLOADS + payload % PAYLOADS
+# What is said of a sheet that ends within a word.
+CUT_WORD = f" (refusal {BAD_HEAD})"
 
 
 def sheet_words(sheet):
@@ -57,43 +48,7 @@ def closing_word(cost):
 
 def write_words(sheet):
     """The bytes of a file."""
-    written = sheet_words(sheet)
-    return struct.pack(f"<{len(written)}I", *written)
-
-
-class Reader:
-    """The words and how many were taken; a fault names the word taken last, also where that one is missing."""
-
-    def __init__(self, words):
-        self.words = words
-        self.taken = 0
-
-    def ended(self):
-        return self.taken == len(self.words)
-
-    def refuse(self, number, reason):
-        raise Fault(f"word {self.taken - 1}", f"{reason} (refusal {number})")
-
-    def take(self, number, due):
-        """Kind and payload of the next word."""
-        self.taken += 1
-        if self.taken > len(self.words):
-            self.refuse(number, f"the sheet ends where {due} is due")
-        return divmod(self.words[self.taken - 1], PAYLOADS)
-
-    def take_kind(self, kind, number, due):
-        found, payload = self.take(number, due)
-        if found != kind:
-            self.refuse(number, f"a word of kind {found} where {due} is due, a word of kind {kind}")
-        return payload
-
-
-def whole_words(size):
-    """How many words so many bytes are; a fault where the last one is cut off."""
-    whole, rest = divmod(size, WORD_BYTES)
-    if rest:
-        raise Fault(f"word {whole}", f"only {rest} of its {WORD_BYTES} bytes (refusal {BAD_HEAD})")
-    return whole
+    return packed(sheet_words(sheet))
 
 
 def too_long():
@@ -105,9 +60,9 @@ def read_words(data):
     """The sheet that a file's bytes hold."""
     if len(data) > WORD_BYTES * MAX_WORDS:
         raise too_long()
-    whole = whole_words(len(data))
-    reader = Reader(struct.unpack(f"<{whole}I", data))
-    places = tuple(read_places(reader, variable) for variable in range(read_head(reader)))
+    whole = whole_words(len(data), CUT_WORD)
+    reader = Reader(unpacked(data), "sheet")
+    places = tuple(read_places(reader, variable) for variable in range(reader.take_stations(BAD_HEAD)))
     sizes = sizes_of(places)
     entries = read_entries(reader, sizes)
     reason = instance_fault(sizes, whole)
@@ -116,17 +71,8 @@ def read_words(data):
     return Sheet(places, entries)
 
 
-def read_head(reader):
-    stations = reader.take_kind(HEAD, BAD_HEAD, "the number of stations")
-    if not 1 <= stations <= MAX_VARIABLES:
-        reader.refuse(BAD_HEAD, f"{stations} stations; a field has 1 to {MAX_VARIABLES}")
-    return stations
-
-
 def read_places(reader, variable):
-    spots = reader.take_kind(SIZE, BAD_STATION, f"the number of spots of station {variable}")
-    if not 1 <= spots <= MAX_SIZE:
-        reader.refuse(BAD_STATION, f"station {variable} with {spots} spots; a station has 1 to {MAX_SIZE}")
+    spots = reader.take_spots(variable, BAD_STATION)
     return tuple((read_coordinate(reader, EASTING, f"the easting of spot {variable}/{value}"),
                   read_coordinate(reader, NORTHING, f"the northing of spot {variable}/{value}"))
                  for value in range(spots))

@@ -7,7 +7,7 @@ from reference.answers import BAD_CLAIM, BAD_TABLE, GOOD, Refused
 from reference.inputs import cost_of, in_range, read_instance
 from reference.tables import read_table
 
-ALL_NUMBERS = list(range(16))
+ALL_NUMBERS = list(range(17))
 OUTCOMES = {"done": 0, "paused": 1, "refused": 2}
 
 
@@ -60,6 +60,18 @@ def complete(table, k, fixed, target):
     completed = reference.complete_call(table, k, fixed, target)
     return call("complete", sliced(table) + [k] + sliced(fixed) + sliced(target),
                 [completed.number, completed.cost] + sliced(completed.target))
+
+
+def to_six(source, target):
+    return conversion("to_six", source, target, reference.to_six(source, target))
+
+
+def to_five(source, target):
+    return conversion("to_five", source, target, reference.to_five(source, target))
+
+
+def conversion(name, source, target, converted):
+    return call(name, sliced(source) + sliced(target), [converted.number, converted.rows] + sliced(converted.target))
 
 
 def check(instance, derivation, assignment, claimed, table):

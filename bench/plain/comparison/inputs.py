@@ -1,6 +1,7 @@
 """Random inputs for every call: fields, tables around the needed length, derivations and claims, some damaged."""
 
 import calls
+import conversions
 import reference
 from reference import fields, words
 from reference.limits import FORBIDDEN_WEIGHT, MAX_COORDINATE, MAX_WEIGHT, ROW_WORDS
@@ -105,7 +106,7 @@ def encoded(rng, sizes, instance):
 
 
 def table_calls(rng, sizes, instance):
-    """Steps, runs, plans and completions one after the other on one table."""
+    """Steps, runs, plans, completions and conversions one after the other on one table."""
     table = encoded(rng, sizes, instance)
     made = [calls.step(table), calls.plan(table, [7] * len(sizes))]
     run = reference.run_call(table, rng.choice([0, 3, 200]), filled(rng, rng.choice([0, 5, 300])))
@@ -114,6 +115,7 @@ def table_calls(rng, sizes, instance):
     end = reference.run_call(table, 300, [0] * 300).table
     made.append(calls.plan(end, filled_bytes(rng, len(sizes) + rng.randint(-1, 2))))
     made += [completion(rng, end, sizes) for _ in range(4)] + [completion(rng, table, sizes)]
+    made += conversions.random_conversions(rng, run.table)
     hurt = damaged(rng, rng.choice([table, end]))
     return made + [calls.step(hurt), calls.run(hurt, 9, [1] * 9), calls.plan(hurt, [9] * 12), completion(rng, hurt, sizes)]
 
@@ -132,14 +134,15 @@ def filled_bytes(rng, length):
 
 
 def heavy_calls(rng, sizes):
-    """A step, a run, a plan and a completion on random rows with weights near the limits."""
+    """A step, a run, a plan, a completion and conversions on random rows with weights near the limits."""
     rows = {}
     for _ in range(rng.randint(0, 12)):
         signs = tuple(rng.randrange(max(1, 2 ** size - 1)) * (rng.random() < 0.6) for size in sizes)
         rows[signs] = rng.choice(HEAVY)
     length = fields.table_length(len(sizes), len(rows) + rng.choice([0, 1, 30]), rng.randrange(ROW_WORDS))
     table = table_words(sizes, [Row(signs, weight) for signs, weight in rows.items()], length)
-    return [calls.step(table), calls.run(table, 60, [3] * 60), calls.plan(table, [9] * 12), completion(rng, table, sizes)]
+    return [calls.step(table), calls.run(table, 60, [3] * 60), calls.plan(table, [9] * 12), completion(rng, table, sizes),
+            *conversions.random_conversions(rng, table)]
 
 
 def check_calls(rng, sizes, instance):

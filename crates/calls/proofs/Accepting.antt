@@ -104,10 +104,10 @@ module _ (inst ws : List ℕ) (rs : List Row) (accepted : instanceFault inst ≡
             rw (check-judged inst ws plan claimed work (coded-number inst work (encodes fits)), full)
 
 pub acceptedWithRoom : AcceptedWithRoom
-acceptedWithRoom inst ws rs accepted d done work front room = accepts inst ws rs accepted d work front done room
+acceptedWithRoom inst ws rs accepted d done work front room = accepts inst ws rs accepted d work front done (omega (arith, room))
 
 pub fullWithoutRoom : FullWithoutRoom
-fullWithoutRoom inst ws rs accepted d plan claimed work front lacks = fills inst ws rs accepted d work front plan claimed lacks
+fullWithoutRoom inst ws rs accepted d plan claimed work front lacks = fills inst ws rs accepted d work front plan claimed (omega (arith, lacks))
 
 -- ---- after a list of calls
 

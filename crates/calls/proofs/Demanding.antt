@@ -1,5 +1,6 @@
 -- Demand 3 for every list of calls, conversions among them, from a table of either form.
 use Prim.Native.Nat.{ℕ, _<_, _≤_}
+use native.Mathlib.Omega.{arith}
 use mathlib.Core.Path.{_≡_, sym, _∙_}
 use mathlib.Core.Logic.{_⊎_, inl, inr}
 use mathlib.Core.Bool.{true}
@@ -68,14 +69,15 @@ module _ (inst : List ℕ) (st : State) (c : ComesIn fiveForm inst st) (target :
           c .sizes,
         )
 
+-- by what the comparisons say and not by how they are spelt
 upheld-five : (inst : List ℕ) (st : State) → ComesIn fiveForm inst st
     → UpheldFive (sizesOf inst) (entriesOf inst) (encodedRows inst) (st .table) (st .derivation)
 upheld-five inst st c =
     record {
       kept = kept-rows fiveForm (first-keeps inst c) (c .valid) (comes-words inst c fiveLaws) (c .derived);
-      sixShort = six-short inst st c;
-      sixFull = six-full inst st c;
-      sixMade = six-made inst st c;
+      sixShort = λ target h. six-short inst st c target (omega (arith, h));
+      sixFull = λ target place h. six-full inst st c target place (omega (arith, h));
+      sixMade = λ target place h. six-made inst st c target place (omega (arith, h));
     }
 
 -- ---- what comes from the encoding upholds demand 3

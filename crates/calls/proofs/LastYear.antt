@@ -1,5 +1,6 @@
 -- A slice that is no valid table of six-word rows, such as last year's table with rows, is refused by all calls but the first conversion.
 use Prim.Native.Nat.{ℕ}
+use native.Mathlib.Omega.{arith}
 use mathlib.Core.Path.{_≡_}
 use mathlib.Core.Bool.{false}
 use mathlib.Core.List.{List}
@@ -23,4 +24,4 @@ first-only t v =
     }
 
 pub oldWithRows : OldWithRows
-oldWithRows t v h = first-only t (oneFormWithRows t v h)
+oldWithRows t v h = first-only t (oneFormWithRows t v (omega (arith, h)))

@@ -1,4 +1,5 @@
 -- The small fields on words, by computation.
+use native.Mathlib.Omega.{arith}
 use mathlib.Core.Path.{refl}
 use Rattle.wcsp.specs.Sign.{has, full, complement, within, present, lowest}
 use Rattle.wcsp.specs.Clause.{falsifies, tautology, same, bucket}
@@ -22,6 +23,8 @@ use Rattle.table.specs.Layout.{tableWordsIn, capacityIn}
 use Rattle.table.specs.Meaning.{tableRowsIn, ownRowsIn, tableSizes, domains}
 use Rattle.table.specs.Valid.{validTableIn, validSigns, signKinds, hasSigns}
 use Rattle.encoding.specs.Calls.{encodeCall}
+use Rattle.conversion.specs.Five.{fiveAt, fiveWeighs, fiveRowOf}
+use Rattle.conversion.specs.Calls.{convertCall}
 use Rattle.stepping.specs.Step.{allowed}
 use Rattle.resolution.specs.Step.{oneStep}
 use Rattle.resolution.specs.Run.{runRows}
@@ -31,12 +34,13 @@ use Rattle.assignment.specs.Calls.{planCall, tableAssignment, tableCompletion}
 use Rattle.completion.specs.Calls.{fixedFit, completionCost, completeCall}
 use Rattle.checker.specs.Replay.{replay, namedPair, permittedPair}
 use Rattle.checker.specs.Calls.{checkCall, claimHolds, judged}
-use Rattle.calls.specs.Calls.{afterCall, afterCalls}
+use Rattle.calls.specs.Calls.{handedOn, afterCall, afterCalls}
+use Rattle.calls.specs.Derivation.{mostRows}
 use Rattle.calls.specs.Driver.{driveAll}
 use Rattle.calls.specs.Witness.{Witnesses}
 
 pub witnesses : Witnesses
-unfolding hasForbidden completeCall fixedFit completionCost tableCompletion rebuiltOver tailWeight scanClosing scanForbidden outcomeNumber outcomeField driveAll afterCall afterCalls stepCall runCall planCall checkCall judged claimHolds isAssignment cost matches replay namedPair permittedPair runRows oneStep allowed tableAssignment rebuilt lowest validTableIn rowWeighs validSigns signKinds hasSigns tableRowsIn ownRowsIn trimmed rawsFromIn rowOf weightIn rawAt tableSizes domains tableWordsIn flatIn encodeCall instanceFault scanWord scanBinding scanCost headIn headed sizeIn goodSizes entriesFrom sizesOf entriesOf padded encoded addAll tautology same full capacityIn nextPair permitted conclusions resolve within present complement heavy emptyWeight weightOf has falsifies bucket
+unfolding handedOn convertCall fiveAt fiveWeighs fiveRowOf mostRows hasForbidden completeCall fixedFit completionCost tableCompletion rebuiltOver tailWeight scanClosing scanForbidden outcomeNumber outcomeField driveAll afterCall afterCalls stepCall runCall planCall checkCall judged claimHolds isAssignment cost matches replay namedPair permittedPair runRows oneStep allowed tableAssignment rebuilt lowest validTableIn rowWeighs validSigns signKinds hasSigns tableRowsIn ownRowsIn trimmed rawsFromIn rowOf weightIn rawAt tableSizes domains tableWordsIn flatIn encodeCall instanceFault scanWord scanBinding scanCost headIn headed sizeIn goodSizes entriesFrom sizesOf entriesOf padded encoded addAll tautology same full capacityIn nextPair permitted conclusions resolve within present complement heavy emptyWeight weightOf has falsifies bucket
 witnesses =
     record {
       encodes = refl;
@@ -61,4 +65,17 @@ witnesses =
       forbiddenCompleted = refl;
       forbiddenChecked = refl;
       checkedEnds = refl;
+      convertedFive = refl;
+      convertedOnly = refl;
+      convertedRows = omega arith;
+      convertedStays = refl;
+      convertedSix = refl;
+      convertedLength = refl;
+      convertedEnds = refl;
+      convertedDerives = refl;
+      roomyRows = omega arith;
+      roomyMost = refl;
+      roomyEnds = refl;
+      roomyAccepted = refl;
+      roomyShort = refl;
     }

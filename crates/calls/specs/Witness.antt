@@ -1,12 +1,12 @@
 -- P1 of document 01 on words meets each hypothesis of demand 3, of an accepted derivation and of the driver's. What the calls refuse, and how
 -- a run ends that is not done: on P1 too, and on a field whose table is too short for its first step. What P1 comes to stands in WordCases.
--- Then forbidden combinations: a field with one spot over a drain, and one with both.
-use Prim.Native.Nat.{ℕ, _+_, _*_}
+-- Then forbidden combinations: a field with one spot over a drain, and one with both; and P1's table converted on the way, and room for the most rows.
+use Prim.Native.Nat.{ℕ, _+_, _-_, _*_, _<_}
 use mathlib.Core.Path.{_≡_}
 use mathlib.Core.Bool.{true, false}
 use mathlib.Core.List.{List, [], _∷_}
 use mathlib.Core.Option.{none, some}
-use lib.ListN.{replicate}
+use lib.ListN.{length, take, replicate}
 use Rattle.wcsp.specs.Resolve.{nextPair}
 use Rattle.words.specs.Layout.{headWord, sizeWord, bindingWord, costWord, forbiddenWord, stepWord}
 use Rattle.fields.specs.Limits.{forbiddenCost}
@@ -15,14 +15,18 @@ use Rattle.fields.specs.Forbidden.{hasForbidden}
 use Rattle.input.specs.Instance.{sizesOf, entriesOf}
 use Rattle.rows.specs.Raw.{rowWidth}
 use Rattle.table.specs.Layout.{rowsAt}
-use Rattle.table.specs.Meaning.{ownRows}
-use Rattle.encoding.specs.Calls.{encodeCall}
-use Rattle.resolution.specs.Calls.{runCall}
+use Rattle.table.specs.Meaning.{rowCount, ownRows}
+use Rattle.table.specs.Valid.{validTableIn, validTable}
+use Rattle.encoding.specs.Calls.{encodedRows, encodeCall}
+use Rattle.conversion.specs.Five.{fiveForm}
+use Rattle.resolution.specs.Calls.{RunReturned, runCall}
 use Rattle.resolution.specs.Numbers.{runNumber, runFields}
-use Rattle.assignment.specs.Calls.{planCall}
+use Rattle.assignment.specs.Calls.{planCall, tableAssignment}
 use Rattle.completion.specs.Calls.{completeCall}
+use Rattle.checker.specs.declared.CheckAnswer.{CheckAnswer}
 use Rattle.checker.specs.Calls.{checkCall}
-use Rattle.calls.specs.Calls.{Call, runAsked, planAsked, started, afterCalls}
+use Rattle.calls.specs.Calls.{Call, stepAsked, runAsked, planAsked, sixAsked, fiveAsked, State, started, afterCalls}
+use Rattle.calls.specs.Derivation.{needs}
 use Rattle.calls.specs.Driver.{DriveReturned, driveAll}
 use Rattle.calls.specs.WordCases.{p1}
 
@@ -55,6 +59,25 @@ bothOverDrain = headWord 1 ∷ sizeWord 2 ∷ bindingWord 0 0 ∷ forbiddenWord 
 -- the table that a run to its end leaves
 abbrev pub finishedTable : List ℕ → List ℕ
 finishedTable inst = runCall (encodeCall inst lent .table) 5 (5 ∷ 6 ∷ []) .table
+
+-- back to five-word rows; a step, which is refused; to six-word rows in a target that is too short, and in one with room; a run
+abbrev pub convertingCalls : List Call
+convertingCalls = fiveAsked (replicate 13 9) ∷ stepAsked ∷ sixAsked (replicate 2 9) ∷ sixAsked (replicate 15 9) ∷ runAsked 5 (5 ∷ 6 ∷ []) ∷ []
+
+-- what the first k of them leave of P1's encoding
+abbrev pub convertedBy : ℕ → State
+convertedBy k = afterCalls (started p1 lent) (take k convertingCalls)
+
+-- a run to the end in a slice with room for the three rows of the crowded field's first step, and its words
+abbrev pub roomy : RunReturned
+roomy = runCall (encodeCall crowded (replicate (rowsAt 2 + 3 * rowWidth) 7) .table) 9 (replicate 4 5)
+
+abbrev pub roomyWords : List ℕ
+roomyWords = take (roomy .answer .steps) (roomy .slice)
+
+-- the check of that run's words in a work table of so many words
+abbrev pub roomyCheck : ℕ → CheckAnswer
+roomyCheck len = checkCall crowded roomyWords (tableAssignment (roomy .table)) (roomy .answer .bound) (replicate len 7) .answer
 
 -- what a run gives: the paper's number of its answer, and its outcome, steps and bound
 abbrev pub RunGives : List ℕ → ℕ → List ℕ → ℕ → List ℕ → Type 0
@@ -89,3 +112,18 @@ pub record Witnesses : Type 0 where
   pub forbiddenCompleted : completeCall (finishedTable bothOverDrain) 1 [] (9 ∷ 8 ∷ []) ≡ record { answer = good forbiddenCost; target = 0 ∷ 8 ∷ [] }
   pub forbiddenChecked : checkCall bothOverDrain (stepWord 0 0 1 ∷ []) (0 ∷ []) forbiddenCost lent .answer ≡ record { number = 0; steps = 1 }
   pub checkedEnds : nextPair (sizesOf bothOverDrain) (ownRows (checkCall bothOverDrain (stepWord 0 0 1 ∷ []) (0 ∷ []) forbiddenCost lent .table)) ≡ none
+  -- converted on the way: the table of five-word rows is no table to the step, and the derivation goes on in another slice
+  pub convertedFive : validTableIn fiveForm (convertedBy 1 .table) ≡ true
+  pub convertedOnly : validTable (convertedBy 1 .table) ≡ false
+  pub convertedRows : 0 < rowCount (convertedBy 1 .table)
+  pub convertedStays : convertedBy 3 ≡ convertedBy 1
+  pub convertedSix : validTable (convertedBy 4 .table) ≡ true
+  pub convertedLength : length (convertedBy 4 .table) ≡ 15
+  pub convertedEnds : nextPair (sizesOf p1) (ownRows (convertedBy 5 .table)) ≡ none
+  pub convertedDerives : convertedBy 5 .derivation ≡ stepWord 0 0 1 ∷ []
+  -- room for the most rows that the steps had, more than the encoding has, is enough and no word less
+  pub roomyRows : length (encodedRows crowded) < needs crowded roomyWords
+  pub roomyMost : needs crowded roomyWords ≡ 3
+  pub roomyEnds : nextPair (sizesOf crowded) (ownRows (roomy .table)) ≡ none
+  pub roomyAccepted : roomyCheck (rowsAt 2 + 3 * rowWidth) ≡ record { number = 0; steps = length roomyWords }
+  pub roomyShort : roomyCheck (rowsAt 2 + 3 * rowWidth - 1) .number ≡ 12

@@ -92,12 +92,13 @@ behind-first ds (suc (suc k)) ws h e z =
 pub oneFormWithRows : OneFormWithRows
 oneFormWithRows t v h =
     ne-true (validTableIn standardForm t) (λ w.
+    let some : 0 < rowCount t = omega (arith, h) in
     let p = passed fiveForm t v in
     let s = passed standardForm t w in
     let ws = drop (rowsAt (variablesOf t)) t in
     let zeros = rw (← drop-drop (5 * rowCount t) (rowsAt (variablesOf t)) t) at (p .zeros) in
-    let low = behind-first (domains t) (rowCount t) ws h (p .rows) zeros in
-    let high = high-kind ws (row-weighs standardForm (domains t) ws (first-row standardForm (domains t) (rowCount t) ws h (s .rows))) in
+    let low = behind-first (domains t) (rowCount t) ws some (p .rows) zeros in
+    let high = high-kind ws (row-weighs standardForm (domains t) ws (first-row standardForm (domains t) (rowCount t) ws some (s .rows))) in
     omega arith)
 
 -- ---- without rows

@@ -2,8 +2,10 @@
 pub mod FiveLaws
 pub mod FiveTests
 pub mod Theorems
+pub mod Order
 pub mod Forms
 pub mod Starting
 pub mod Weights
 pub mod Rewriting
 pub mod Converting
+pub mod Witness

@@ -1,8 +1,8 @@
--- A good conversion keeps sizes and rows, and there and back is the same words, for any two forms. No weight is too wide for six words.
+-- A good conversion keeps sizes and rows, and there and back is the same words, for any two forms; no weight of a five-word row is too great for six.
 use Prim.Native.Nat.{ℕ, _≤_}
 use native.Mathlib.Omega.{arith}
 use mathlib.Core.Path.{_≡_, refl, sym, ap, _∙_}
-use mathlib.Core.Bool.{Bool, true, false, cond, false≢true}
+use mathlib.Core.Bool.{Bool, true, false, cond}
 use mathlib.Core.List.{List}
 use lib.ListN.{length}
 use lib.Dec.{ltb}
@@ -23,7 +23,7 @@ use Rattle.table.proofs.RawRows.{tableLaws}
 use Rattle.table.proofs.Own.{validIsCanonicalIn, writtenReadsBackIn, own-widens-in}
 use Rattle.conversion.specs.Five.{fiveMaxWeight, fiveForm}
 use Rattle.conversion.specs.Calls.{ConvertReturned, convertCall}
-use Rattle.conversion.specs.Theorems.{KeepsIn, BackIn, Conversions, SixNeverTooWide}
+use Rattle.conversion.specs.Theorems.{KeepsIn, BackIn, Conversions}
 use Rattle.conversion.proofs.FiveLaws.{fiveLaws}
 
 -- ---- a good call
@@ -158,17 +158,3 @@ light-above L M rs h e = light M rs (λ i l. omega (arith, heavy-at L rs i e))
 pub five-light : (source : List ℕ) → validTableIn fiveForm source ≡ true → heavy (standardForm .limit) (ownRowsIn fiveForm source) ≡ false
 five-light source v =
     light-above fiveMaxWeight maxWeight (ownRowsIn fiveForm source) (omega arith) (validIsCanonicalIn fiveForm fiveLaws source v .holdable .light)
-
-pub sixNeverTooWide : SixNeverTooWide
-unfolding convertsBy
-sixNeverTooWide source target e =
-    go _ (ltb (length target) (rowsAt (variablesOf source))) _ (ltb (capacityIn standardForm (length target) (variablesOf source)) (length (ownRowsIn fiveForm source)))
-    refl refl (sym (ap (λ r. r .answer .number) (by-tests fiveForm standardForm source target)) ∙ e)
-  where
-    go : (a b c d : Bool) → validTableIn fiveForm source ≡ a → heavy (standardForm .limit) (ownRowsIn fiveForm source) ≡ c
-        → convertsBy fiveForm standardForm source target a b c d .answer .number ≡ 16 → ⊥
-    go true true c d p r h = omega arith
-    go true false true d p r h = false≢true (sym (five-light source p) ∙ r)
-    go true false false true p r h = omega arith
-    go true false false false p r h = omega arith
-    go false b c d p r h = omega arith

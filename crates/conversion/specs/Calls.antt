@@ -36,7 +36,7 @@ convertCall f g source target =
     (record { answer = good (length rs); target = tableWordsIn g (length target) (tableSizes source) rs }))))
     (record { answer = refused 9; target = target })
 
--- "Turn such a table into the six-word form": 9, 10, 12; never 16 (`SixNeverTooWide`)
+-- "Turn such a table into the six-word form": 9, 10, 12; never 16 (`SixInOrder`)
 abbrev pub toSixCall : List ℕ → List ℕ → ConvertReturned
 toSixCall source target = convertCall fiveForm standardForm source target
 

@@ -2,3 +2,5 @@
 pub mod Five
 pub mod Calls
 pub mod Theorems
+pub mod Order
+pub mod Witness

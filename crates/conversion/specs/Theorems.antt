@@ -1,7 +1,6 @@
 -- What the conversions keep, and which tables are valid in which form.
 use Prim.Native.Nat.{ℕ, _<_}
 use mathlib.Core.Path.{_≡_}
-use mathlib.Core.Logic.{_≢_}
 use mathlib.Core.Bool.{true, false}
 use mathlib.Core.List.{List, []}
 use lib.ListN.{length}
@@ -12,7 +11,7 @@ use Rattle.table.specs.Raws.{standardForm}
 use Rattle.table.specs.Meaning.{variablesOf, tableSizes, rowCount, ownRowsIn}
 use Rattle.table.specs.Valid.{validTableIn, validTable}
 use Rattle.conversion.specs.Five.{fiveForm}
-use Rattle.conversion.specs.Calls.{convertCall, toSixCall, toFiveCall}
+use Rattle.conversion.specs.Calls.{convertCall}
 
 -- ---- what a good conversion keeps
 
@@ -38,10 +37,6 @@ pub record Conversions : Type 0 where
   pub fiveKeeps : KeepsIn standardForm fiveForm
   pub sixAndBack : BackIn fiveForm standardForm
   pub fiveAndBack : BackIn standardForm fiveForm
-
--- every weight of a five-word row has its words in six
-abbrev pub SixNeverTooWide : Type 0
-SixNeverTooWide = (source target : List ℕ) → toSixCall source target .answer .number ≢ 16
 
 -- ---- the two forms
 

@@ -123,9 +123,9 @@ pub extern "C" fn gotalhim_complete(
 pub extern "C" fn gotalhim_to_six(source: &[u32], target: &mut [u32], answer: &mut [u64]) -> u32
     ensures returned { λ r. ⌜ record { number = r; slices = now (target .exit) ∷ []; answer = now (answer .exit) } ≡ sixExport (now (source .entry)) (now (target .entry)) (now (answer .entry)) ⌝ }
 {
-    let converted = conversion::to_six(source, target);
-    note(answer, converted.value);
-    converted.number
+    let widened = conversion::to_six(source, target);
+    note(answer, widened.value);
+    widened.number
 }
 
 // Turn a table of six-word rows back into one of five-word rows. Answer: the rows.
@@ -133,9 +133,9 @@ pub extern "C" fn gotalhim_to_six(source: &[u32], target: &mut [u32], answer: &m
 pub extern "C" fn gotalhim_to_five(source: &[u32], target: &mut [u32], answer: &mut [u64]) -> u32
     ensures returned { λ r. ⌜ record { number = r; slices = now (target .exit) ∷ []; answer = now (answer .exit) } ≡ fiveExport (now (source .entry)) (now (target .entry)) (now (answer .entry)) ⌝ }
 {
-    let converted = conversion::to_five(source, target);
-    note(answer, converted.value);
-    converted.number
+    let narrowed = conversion::to_five(source, target);
+    note(answer, narrowed.value);
+    narrowed.number
 }
 
 // Replay a derivation in a work table, and judge a plan and its claimed cost. Answer: the steps replayed.

@@ -1,18 +1,23 @@
-"""Step calls, runs and plan calls in any order on one table, and derivations of any permitted pairs."""
+"""Step calls, runs and plan calls in any order on one table, which may be converted on the way, and derivations of any permitted
+pairs."""
 
 import random
 from itertools import combinations
 
-from reference import check_call, complete_call, encode, plan_call, run_call, step_call, words
+from reference import (check_call, complete_call, encode, most_rows, plan_call, run_call, step_call, to_five, to_six,
+                       words)
 from reference.fields import all_forbidden, instance, table_length
-from reference.limits import ROW_WORDS
-from reference.tables import empty_weight, read_table
+from reference.forms import FIVE
+from reference.limits import FIVE_MAX_WEIGHT, ROW_WORDS
+from reference.tables import empty_weight, read_table, table_words
 
 from .plain import may_resolve, plain_rows
 from .support import Comparison, cost_table, random_field
 
 
 class CallLists(Comparison):
+    CALLS = ["step", "run_steps", "plan"]
+
     def test_random_lists(self):
         rng = random.Random(3)
         outcomes = [self.hold(rng, *random_field(rng)) for _ in range(150)]
@@ -29,6 +34,7 @@ class CallLists(Comparison):
             table = self.one_call(rng, table, derivation)
             bound = self.conserved(table, costs)
         self.assertLessEqual(len(derivation), sum(size * size for size in sizes) * sum(costs.values()))
+        self.assertEqual(derivation, self.first_steps(source, len(derivation)))
         last = step_call(table)
         if last.outcome != "done":
             self.assertIn(last.number, (0, 12))
@@ -36,9 +42,16 @@ class CallLists(Comparison):
         assignment = complete_call(table, len(sizes), [], [0] * len(sizes)).target
         self.assertEqual((bound, costs[tuple(assignment)]), (min(costs.values()),) * 2)
         self.assertEqual(plan_call(table, assignment).number, 15 if all_forbidden(sizes, entries) else 0)
-        self.assertEqual(check_call(source, derivation, assignment, bound, [6] * len(table)),
-                         (0, len(derivation), table))
+        self.accepted(source, derivation, (assignment, bound), table)
         return "done"
+
+    def accepted(self, source, derivation, claim, table):
+        """By the checker, in a work table as long as the list's."""
+        self.assertEqual(check_call(source, derivation, *claim, [6] * len(table)), (0, len(derivation), table))
+
+    def first_steps(self, source, count):
+        """So many step words of a run in a table with room for all."""
+        return run_call(encode(source, [5] * 5_000).table, count, [0] * count).derivation
 
     def tight_table(self, rng, source):
         """The encoded table in a slice that has often no room for what the steps need."""
@@ -48,8 +61,7 @@ class CallLists(Comparison):
 
     def one_call(self, rng, table, derivation):
         """The table after one random call; its step words are put behind the derivation."""
-        call = rng.choice([self.step, self.run_steps, self.plan])
-        return call(rng, table, derivation)
+        return getattr(self, rng.choice(self.CALLS))(rng, table, derivation)
 
     def step(self, _, table, derivation):
         answer = step_call(table)
@@ -76,6 +88,46 @@ class CallLists(Comparison):
         if answer.number:
             self.assertEqual(answer.target, [9] * room)
         return table
+
+
+class ConvertedLists(CallLists):
+    """The same with conversions there and back, into slices of other lengths."""
+
+    CALLS = CallLists.CALLS + ["convert"]
+
+    def convert(self, rng, table, derivation):
+        """The table behind both conversions; as it was, where the first one is refused."""
+        sizes, rows = read_table(table)
+        room, heavy = max(0, len(rows) + rng.choice([-1, 0, 1])), any(row.weight > FIVE_MAX_WEIGHT for row in rows)
+        length = table_length(len(sizes), room, rng.randrange(5), FIVE)
+        five = to_five(table, [5] * length)
+        self.assertEqual(five.number, 16 if heavy else 12 if room < len(rows) else 0)
+        if five.number:
+            self.assertEqual(five.target, [5] * length)
+            return table
+        return self.six_again(rng, five.target, len(rows))
+
+    def six_again(self, rng, five, row_total):
+        """All other calls refuse the five-word table, and so does its conversion without room; then it succeeds."""
+        variables = words.payload_of(five[0])
+        if row_total:
+            self.assertEqual((step_call(five), run_call(five, 9, [3]), plan_call(five, [9] * 4)),
+                             (("refused", 9, 0, five), ("refused", 9, 0, 0, five, [3]), (9, [9] * 4)))
+            self.assertEqual(to_five(five, [5] * len(five)), (9, 0, [5] * len(five)))
+            short = [5] * table_length(variables, row_total - 1, rng.randrange(ROW_WORDS))
+            self.assertEqual(to_six(five, short), (12, 0, short))
+        six = to_six(five, [5] * table_length(variables, row_total + rng.choice([0, 1, 60]), rng.randrange(ROW_WORDS)))
+        self.assertEqual(six[:2], (0, row_total))
+        return six.target
+
+    def accepted(self, source, derivation, claim, table):
+        """With room for the most rows that there ever were, however long the list's last table is, and not with one row less."""
+        (sizes, rows), most = read_table(table), most_rows(source, derivation)
+        length = table_length(len(sizes), most)
+        self.assertEqual(check_call(source, derivation, *claim, [6] * length),
+                         (0, len(derivation), table_words(sizes, rows, length)))
+        if most:
+            self.assertEqual(check_call(source, derivation, *claim, [6] * (length - 1)).number, 12)
 
 
 def permitted_words(table):

