@@ -1,5 +1,5 @@
-# Proves and builds the program of ./plan or ./season where that has not been done since the last change. A command sets `here`, the
-# repository, and `crate`, its program's; what it builds is marked and logged under its own name.
+# Proves and builds the program of a command where that has not been done since the last change. The command sets `here`, the repository, and
+# `crate`, its program's; what it builds is marked and logged under its own name.
 program=$here/target/bin/$crate
 built=$here/target/$command.built
 

@@ -1,4 +1,4 @@
-# What the commands ./plan and ./season say on the standard error. Each sets `command`, its name, before it takes this file in.
+# What the commands say on the standard error. Each sets `command`, its name, before it takes this file in.
 
 # A closed or full standard error changes no answer and no status.
 say() {

@@ -1,2 +1,3 @@
--- The laws of bytes that are read.
+-- The laws of bytes that are read and of words that are written.
 pub mod Words
+pub mod Writing

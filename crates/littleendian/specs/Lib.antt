@@ -1,2 +1,3 @@
 -- Bytes as little-endian words.
 pub mod Words
+pub mod Theorems
