@@ -250,9 +250,10 @@ uint32_t gotalhim_drive(const uint32_t *instance, size_t instance_length,
  * variable, and then requires that the claimed cost is the bound and is the plan's cost. Number 0 means that the claimed
  * cost is the least cost of the instance and that the plan has it, whoever made derivation, plan and claim. A forbidden
  * entry counts at its cost: an accepted claim of GOTALHIM_FORBIDDEN_WEIGHT or more shows that every plan has a forbidden
- * combination. The number is never 15; the plan may be that of gotalhim_complete with k = n. What a list of calls came to
- * whose table has no pair left, its step words, plan and bound, is accepted in a work table as long as the list's; where
- * the table was converted on the way, in one with room for the most rows that it ever had, from the encoding on.
+ * combination. The number is never 15; the plan may be that of gotalhim_complete with k = n. The step words, plan and
+ * bound of a list of calls that left no pair are accepted in a work table as long as the list's; where the table was
+ * converted on the way, in one of at least n + 2 words with room for the most rows that there ever were, from the
+ * encoding on.
  * Tests: 1 to 5 on the instance; 10 if the slice is shorter than n + 2 words; 12 for the encoding; for each step word
  * in turn 6, 11, 12; then 7.
  * Answer: the steps replayed, also where a step word or the claim is refused.

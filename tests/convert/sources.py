@@ -7,6 +7,7 @@ from reference import step_call
 from reference.fields import forbidden, instance, settled_rows, table_length
 from reference.forms import FIVE, SIX
 from reference.limits import FIVE_MAX_WEIGHT, FORBIDDEN_WEIGHT, MAX_ROWS, MAX_WEIGHT
+from reference.steps import STEPPED
 from reference.tables import Row, encode, read_table, table_words
 
 TWELVE = (8,) * 12
@@ -35,8 +36,8 @@ def half_resolved(number, field):
     """The tables of a field after its encoding and after each step."""
     sizes, entries = field
     words = encode(instance(sizes, entries), [0] * table_length(len(sizes), 200)).table
-    steps, outcome = 0, "stepped"
-    while outcome == "stepped":
+    steps, outcome = 0, STEPPED
+    while outcome == STEPPED:
         yield Source(f"field {number} after {steps} steps", *read_table(words))
         outcome, _, _, words = step_call(words)
         steps += 1

@@ -37,7 +37,7 @@ progress() {
     [ ! -t 2 ] || [ "$proved" -eq 0 ] || echo >&2
 }
 
-# The toolchain gets no standard input, which may be the file that is to be planned.
+# The toolchain gets no standard input, which may be the file that is to be planned or converted.
 build() {
     command -v rt >/dev/null 2>&1 || fail "the Rattle toolchain's command rt is not installed"
     say "proving and building the program; the first time takes some minutes"

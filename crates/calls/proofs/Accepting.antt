@@ -29,7 +29,8 @@ use Rattle.checker.proofs.Encoded.{GoodEncoding, coded, coded-number}
 use Rattle.checker.proofs.Kept.{Keeps, encoded-keeps}
 use Rattle.checker.proofs.Claims.{check-judged, coded-takes, encoded-left}
 use Rattle.calls.specs.Calls.{State, afterCalls, started, Derives}
-use Rattle.calls.specs.Derivation.{Fronts, needs, takes, Accepts, AcceptedWithRoom, FullWithoutRoom, ConvertedAccepted, DerivationAccepted, DrivenAccepted}
+use Rattle.calls.specs.Demand.{room}
+use Rattle.calls.specs.Derivation.{needs, TakesFront, Accepts, AcceptedWithRoom, FullWithoutRoom, ConvertedAccepted, DerivationAccepted, DrivenAccepted}
 use Rattle.calls.specs.Driver.{driveWords, callsAsked, DriveReturned, startOf, driveReturns, driveAll}
 use Rattle.calls.proofs.Reaching.{derives-keeps, reaches-replayed}
 use Rattle.calls.proofs.Most.{most-first, derives-reaches, reaches-most, replay-full}
@@ -70,20 +71,20 @@ module _ (inst ws : List ℕ) (rs : List Row) (accepted : instanceFault inst ≡
   first : Keeps ds (entriesOf inst) (encodedRows inst)
   first = encoded-keeps sizes entries
 
-  module _ (work : List ℕ) (front : Fronts inst work) where
-    small : takes inst work ≤ 4096
+  module _ (work : List ℕ) (front : TakesFront inst work) where
+    small : room ds work ≤ 4096
     small = capacity-small (length work) (length ds)
 
     -- the encoding has room, where the most rows have it
-    encodes : length (encodedRows inst) ≤ takes inst work → GoodEncoding inst work
+    encodes : length (encodedRows inst) ≤ room ds work → GoodEncoding inst work
     encodes f = record { accepted = accepted; room = front; fits = f }
 
-    accepts : nextPair ds rs ≡ none → needs inst ws ≤ takes inst work → Accepts inst ws rs work
+    accepts : nextPair ds rs ≡ none → needs inst ws ≤ room ds work → Accepts inst ws (rebuilt ds rs) rs work
     unfolding judged
-    accepts done room =
-        let fits : length (encodedRows inst) ≤ takes inst work = omega (arith, most-first ds (encodedRows inst) ws) in
-        let r = derives-reaches {es = entriesOf inst} sizes entries small d room in
-        let replayed : replay ds (takes inst work) (encodedRows inst) 0 ws ≡ record { number = 0; steps = 0 + length ws; rows = rs }
+    accepts done enough =
+        let fits : length (encodedRows inst) ≤ room ds work = omega (arith, most-first ds (encodedRows inst) ws) in
+        let r = derives-reaches {es = entriesOf inst} sizes entries small d enough in
+        let replayed : replay ds (room ds work) (encodedRows inst) 0 ws ≡ record { number = 0; steps = 0 + length ws; rows = rs }
         = reaches-replayed sizes entries small 0 (record { keeps = first; fits = fits }) r in
         rw (
           check-judged inst ws (rebuilt ds rs) (emptyWeight (length ds) rs) work (coded-number inst work (encodes fits)),
@@ -92,14 +93,14 @@ module _ (inst ws : List ℕ) (rs : List Row) (accepted : instanceFault inst ≡
           zero-add,
         )
 
-    fills : (plan : List ℕ) (claimed : ℕ) → takes inst work < needs inst ws → checkCall inst ws plan claimed work .answer .number ≡ 12
+    fills : (plan : List ℕ) (claimed : ℕ) → room ds work < needs inst ws → checkCall inst ws plan claimed work .answer .number ≡ 12
     unfolding checkCall encodeCall judged
-    fills plan claimed lacks = go (ltb (takes inst work) (length (encodedRows inst))) refl
+    fills plan claimed lacks = go (ltb (room ds work) (length (encodedRows inst))) refl
       where
-        go : (b : Bool) → ltb (takes inst work) (length (encodedRows inst)) ≡ b → checkCall inst ws plan claimed work .answer .number ≡ 12
+        go : (b : Bool) → ltb (room ds work) (length (encodedRows inst)) ≡ b → checkCall inst ws plan claimed work .answer .number ≡ 12
         go true e = rw (eq-eqb (instanceFault inst) 0 accepted, le-ltb (length work) (length ds + 2) front, e)
         go false e =
-            let fits = ltb-false (takes inst work) (length (encodedRows inst)) e in
+            let fits = ltb-false (room ds work) (length (encodedRows inst)) e in
             let full = replay-full sizes entries small 0 (record { keeps = first; fits = fits }) d lacks in
             rw (check-judged inst ws plan claimed work (coded-number inst work (encodes fits)), full)
 
@@ -115,7 +116,7 @@ pub convertedAccepted : ConvertedAccepted
 convertedAccepted inst st calls c valid done work front room =
     let end = afterCalls st calls in
     let s = comes-six inst end (calls-come inst st calls c) valid in
-    rw (held-assignment (comes-held inst s)) (acceptedWithRoom inst (end .derivation) (ownRows (end .table)) (s .accepted) (s .derived) done work front room)
+    rw (held-assignment (comes-held inst s)) (acceptedWithRoom inst (end .derivation) (ownRows (end .table)) (s .accepted) (s .derived) done work front (omega (arith, room)))
 
 pub derivationAccepted : DerivationAccepted
 derivationAccepted inst t calls e plain done work long =

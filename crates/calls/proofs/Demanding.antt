@@ -3,9 +3,10 @@ use Prim.Native.Nat.{ℕ, _<_, _≤_}
 use native.Mathlib.Omega.{arith}
 use mathlib.Core.Path.{_≡_, sym, _∙_}
 use mathlib.Core.Logic.{_⊎_, inl, inr}
-use mathlib.Core.Bool.{true}
+use mathlib.Core.Bool.{Bool, true, false}
 use mathlib.Core.List.{List}
 use lib.ListN.{length}
+use lib.Dec.{ltb}
 use borrow.Author.Tests.{lt-ltb, le-ltb}
 use Rattle.fields.specs.Answers.{refused, good}
 use Rattle.input.specs.Instance.{sizesOf, entriesOf}
@@ -38,18 +39,17 @@ module _ (inst : List ℕ) (st : State) (c : ComesIn fiveForm inst st) (target :
       ∙ rw (c .valid, numbered, lt-ltb (length target) (rowsAt (length (sizesOf inst))) h)
 
   module _ (place : rowsAt (length (sizesOf inst)) ≤ length target) where
+    -- only the room is asked for
+    six-by : (b : Bool) → ltb (room (sizesOf inst) target) (length (ownRowsIn fiveForm (st .table))) ≡ b
+        → toSixCall (st .table) target ≡ convertsBy fiveForm standardForm (st .table) target true false false b
+    six-by b e =
+        by-tests fiveForm standardForm (st .table) target
+        ∙ rw (c .valid, numbered, le-ltb (length target) (rowsAt (length (sizesOf inst))) place, five-light (st .table) (c .valid), e)
+
     six-full : room (sizesOf inst) target < length (ownRowsIn fiveForm (st .table))
         → toSixCall (st .table) target ≡ record { answer = refused 12; target = target }
     unfolding convertsBy
-    six-full h =
-        by-tests fiveForm standardForm (st .table) target
-        ∙ rw (
-          c .valid,
-          numbered,
-          le-ltb (length target) (rowsAt (length (sizesOf inst))) place,
-          five-light (st .table) (c .valid),
-          lt-ltb (room (sizesOf inst) target) (length (ownRowsIn fiveForm (st .table))) h,
-        )
+    six-full h = six-by true (lt-ltb (room (sizesOf inst) target) (length (ownRowsIn fiveForm (st .table))) h)
 
     six-made : length (ownRowsIn fiveForm (st .table)) ≤ room (sizesOf inst) target
         → toSixCall (st .table) target
@@ -58,16 +58,7 @@ module _ (inst : List ℕ) (st : State) (c : ComesIn fiveForm inst st) (target :
           target = tableWords (length target) (sizesOf inst) (ownRowsIn fiveForm (st .table));
         }
     unfolding convertsBy
-    six-made h =
-        by-tests fiveForm standardForm (st .table) target
-        ∙ rw (
-          c .valid,
-          numbered,
-          le-ltb (length target) (rowsAt (length (sizesOf inst))) place,
-          five-light (st .table) (c .valid),
-          le-ltb (room (sizesOf inst) target) (length (ownRowsIn fiveForm (st .table))) h,
-          c .sizes,
-        )
+    six-made h = rw (← c .sizes) (six-by false (le-ltb (room (sizesOf inst) target) (length (ownRowsIn fiveForm (st .table))) h))
 
 -- by what the comparisons say and not by how they are spelt
 upheld-five : (inst : List ℕ) (st : State) → ComesIn fiveForm inst st

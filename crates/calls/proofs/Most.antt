@@ -31,7 +31,7 @@ module _ {ds : List ℕ} {es : List Entry} {cap : ℕ} (s : FieldSizes ds) (n : 
   most-next : (rs : List Row) (pr : Pair) (ws : List ℕ) → nextPair ds rs ≡ some pr → length rs ≤ cap
       → mostRows ds rs (pairWord pr ∷ ws) ≡ max (length rs) (mostRows ds (resolve ds pr rs) ws)
   unfolding mostRows
-  most-next rs pr ws e fits = ap (λ p. max (length rs) (mostRows ds (resolve ds p rs) ws)) (next-named s n small rs pr e fits .1)
+  most-next rs pr ws e fits = let rest = ap (λ p. mostRows ds (resolve ds p rs) ws) (next-named s n small rs pr e fits .1) in omega (arith, rest)
 
   pub derives-reaches : {rs rs′ : List Row} {ws : List ℕ} → Derives ds rs ws rs′ → mostRows ds rs ws ≤ cap → Reaches ds cap rs ws rs′
   derives-reaches Derives.stop m = still

@@ -31,6 +31,7 @@ use Rattle.resolution.specs.Run.{runRows}
 use Rattle.resolution.specs.Calls.{stepCall, runCall}
 use Rattle.resolution.specs.Numbers.{outcomeNumber, outcomeField}
 use Rattle.assignment.specs.Calls.{planCall, tableAssignment, tableCompletion}
+use Rattle.assignment.specs.Order.{isLeft}
 use Rattle.completion.specs.Calls.{fixedFit, completionCost, completeCall}
 use Rattle.checker.specs.Replay.{replay, namedPair, permittedPair}
 use Rattle.checker.specs.Calls.{checkCall, claimHolds, judged}
@@ -40,7 +41,7 @@ use Rattle.calls.specs.Driver.{driveAll}
 use Rattle.calls.specs.Witness.{Witnesses}
 
 pub witnesses : Witnesses
-unfolding handedOn convertCall fiveAt fiveWeighs fiveRowOf mostRows hasForbidden completeCall fixedFit completionCost tableCompletion rebuiltOver tailWeight scanClosing scanForbidden outcomeNumber outcomeField driveAll afterCall afterCalls stepCall runCall planCall checkCall judged claimHolds isAssignment cost matches replay namedPair permittedPair runRows oneStep allowed tableAssignment rebuilt lowest validTableIn rowWeighs validSigns signKinds hasSigns tableRowsIn ownRowsIn trimmed rawsFromIn rowOf weightIn rawAt tableSizes domains tableWordsIn flatIn encodeCall instanceFault scanWord scanBinding scanCost headIn headed sizeIn goodSizes entriesFrom sizesOf entriesOf padded encoded addAll tautology same full capacityIn nextPair permitted conclusions resolve within present complement heavy emptyWeight weightOf has falsifies bucket
+unfolding isLeft handedOn convertCall fiveAt fiveWeighs fiveRowOf mostRows hasForbidden completeCall fixedFit completionCost tableCompletion rebuiltOver tailWeight scanClosing scanForbidden outcomeNumber outcomeField driveAll afterCall afterCalls stepCall runCall planCall checkCall judged claimHolds isAssignment cost matches replay namedPair permittedPair runRows oneStep allowed tableAssignment rebuilt lowest validTableIn rowWeighs validSigns signKinds hasSigns tableRowsIn ownRowsIn trimmed rawsFromIn rowOf weightIn rawAt tableSizes domains tableWordsIn flatIn encodeCall instanceFault scanWord scanBinding scanCost headIn headed sizeIn goodSizes entriesFrom sizesOf entriesOf padded encoded addAll tautology same full capacityIn nextPair permitted conclusions resolve within present complement heavy emptyWeight weightOf has falsifies bucket
 witnesses =
     record {
       encodes = refl;
@@ -73,6 +74,11 @@ witnesses =
       convertedLength = refl;
       convertedEnds = refl;
       convertedDerives = refl;
+      halfwayFive = refl;
+      halfwaySizes = refl;
+      halfwayRows = omega arith;
+      halfwaySteps = refl;
+      halfwayLeft = refl;
       roomyRows = omega arith;
       roomyMost = refl;
       roomyEnds = refl;

@@ -1,4 +1,4 @@
--- A list of step calls, runs, plan calls and conversions on the table that an encoding wrote: each call gets it as the call before left it.
+-- A list of step calls, runs, plan calls and conversions on a table: each call gets it as the call before left it.
 use Prim.Native.Nat.{ℕ}
 use mathlib.Core.Path.{_≡_}
 use mathlib.Core.Bool.{Bool, true, false, cond}

@@ -1,4 +1,4 @@
--- Demand 3: lists of calls on one table, and what holds after every one of them.
+-- Demand 3: lists of calls on a table, and what holds after every one of them.
 pub mod Calls
 pub mod LastFixed
 pub mod Forbids

@@ -15,13 +15,14 @@ use Rattle.fields.specs.Forbidden.{hasForbidden}
 use Rattle.input.specs.Instance.{sizesOf, entriesOf}
 use Rattle.rows.specs.Raw.{rowWidth}
 use Rattle.table.specs.Layout.{rowsAt}
-use Rattle.table.specs.Meaning.{rowCount, ownRows}
+use Rattle.table.specs.Meaning.{tableSizes, rowCount, ownRowsIn, ownRows}
 use Rattle.table.specs.Valid.{validTableIn, validTable}
 use Rattle.encoding.specs.Calls.{encodedRows, encodeCall}
 use Rattle.conversion.specs.Five.{fiveForm}
 use Rattle.resolution.specs.Calls.{RunReturned, runCall}
 use Rattle.resolution.specs.Numbers.{runNumber, runFields}
 use Rattle.assignment.specs.Calls.{planCall, tableAssignment}
+use Rattle.assignment.specs.Order.{isLeft}
 use Rattle.completion.specs.Calls.{completeCall}
 use Rattle.checker.specs.declared.CheckAnswer.{CheckAnswer}
 use Rattle.checker.specs.Calls.{checkCall}
@@ -67,6 +68,13 @@ convertingCalls = fiveAsked (replicate 13 9) ∷ stepAsked ∷ sixAsked (replica
 -- what the first k of them leave of P1's encoding
 abbrev pub convertedBy : ℕ → State
 convertedBy k = afterCalls (started p1 lent) (take k convertingCalls)
+
+-- P2's field, and its table after one step of three, back in five-word rows
+abbrev pub p2 : List ℕ
+p2 = headWord 1 ∷ sizeWord 3 ∷ bindingWord 0 0 ∷ costWord 2 ∷ bindingWord 0 1 ∷ costWord 1 ∷ bindingWord 0 2 ∷ costWord 4 ∷ []
+
+abbrev pub halfway : State
+halfway = afterCalls (started p2 (replicate 21 7)) (stepAsked ∷ fiveAsked (replicate 18 9) ∷ [])
 
 -- a run to the end in a slice with room for the three rows of the crowded field's first step, and its words
 abbrev pub roomy : RunReturned
@@ -121,6 +129,12 @@ pub record Witnesses : Type 0 where
   pub convertedLength : length (convertedBy 4 .table) ≡ 15
   pub convertedEnds : nextPair (sizesOf p1) (ownRows (convertedBy 5 .table)) ≡ none
   pub convertedDerives : convertedBy 5 .derivation ≡ stepWord 0 0 1 ∷ []
+  -- a half-resolved table of five-word rows, as one that was kept: a step is made, and a pair is left
+  pub halfwayFive : validTableIn fiveForm (halfway .table) ≡ true
+  pub halfwaySizes : tableSizes (halfway .table) ≡ sizesOf p2
+  pub halfwayRows : 0 < rowCount (halfway .table)
+  pub halfwaySteps : length (halfway .derivation) ≡ 1
+  pub halfwayLeft : isLeft (nextPair (sizesOf p2) (ownRowsIn fiveForm (halfway .table))) ≡ true
   -- room for the most rows that the steps had, more than the encoding has, is enough and no word less
   pub roomyRows : length (encodedRows crowded) < needs crowded roomyWords
   pub roomyMost : needs crowded roomyWords ≡ 3

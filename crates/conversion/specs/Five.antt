@@ -1,5 +1,5 @@
 -- Last year's form of tables: rows of five words, four sign words and one with the whole weight. Its width, its greatest weight, and how a
--- weight lies in a row's words and is told from other words stand here alone; the sign words are those of the form that every table has.
+-- weight lies in a row's words and is told from other words stand here alone; the sign words are those of six-word rows.
 use Prim.Native.Nat.{ℕ, _+_}
 use mathlib.Core.Bool.{Bool, not, _&&_}
 use mathlib.Core.List.{List, [], _∷_}

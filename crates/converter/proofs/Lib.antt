@@ -2,3 +2,4 @@
 pub mod Meaning
 mod Requests
 mod Answering
+pub mod Witness

@@ -1,4 +1,4 @@
--- The form that every table has keeps the laws of a form, and so its raw rows have those of flat rows.
+-- The form of six-word rows keeps the laws of a form, and so its raw rows have those of flat rows.
 use Prim.Native.Nat.{ℕ, _+_, _*_, _≤_, _<_}
 use native.Mathlib.Nat.{add-assoc, add-zero}
 use native.Mathlib.Omega.{arith}

@@ -1,4 +1,4 @@
--- Tables of the form that every table has: what Laid and Left give, and how one call's result meets the next one's demand.
+-- Tables of six-word rows: what Laid and Left give, and how one call's result meets the next one's demand.
 use Prim.Native.Nat.{ℕ}
 use mathlib.Core.Path.{_≡_}
 use mathlib.Core.List.{List}

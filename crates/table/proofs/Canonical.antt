@@ -1,4 +1,4 @@
--- Valid tables of the form that every table has are canonical, and what is written reads back.
+-- Valid tables of six-word rows are canonical, and what is written reads back.
 use Prim.Native.Nat.{ℕ, _+_, _*_, _≤_}
 use mathlib.Core.Path.{_≡_}
 use mathlib.Core.Bool.{true}

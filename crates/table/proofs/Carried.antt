@@ -22,7 +22,7 @@ pub data AllCarriedIn (limit : ℕ) : List Row → Type 0 where
   nilCarried : AllCarriedIn limit []
   consCarried : {r : Row} {rs : List Row} → CarriedIn limit r → AllCarriedIn limit rs → AllCarriedIn limit (r ∷ rs)
 
--- in the form that every table has
+-- in the form of six-word rows
 abbrev pub Carried : Row → Type 0
 Carried r = CarriedIn maxWeight r
 

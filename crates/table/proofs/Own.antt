@@ -113,7 +113,7 @@ module _ (f : TableForm) (law : TableLaws f) where
             ∙ trimmedWide (lacking ds) (length ds) rs (valid-spanning (h .valid));
       }
 
--- ---- in the form that every table has
+-- ---- in the form of six-word rows
 
 pub validIsCanonical : ValidIsCanonical
 validIsCanonical = validIsCanonicalIn standardForm tableLaws

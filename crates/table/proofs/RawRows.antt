@@ -1,4 +1,4 @@
--- The form that every table has keeps the laws of a form of tables: rows and raw rows give each other, and a row's words pass the tests exactly if they are made from it.
+-- The form of six-word rows keeps the laws of a form of tables: rows and raw rows give each other, and a row's words pass the tests exactly if they are made from it.
 use Prim.Native.Nat.{ℕ, zero, suc, _+_, _*_, _<_, _≤_}
 use mathlib.Core.Path.{_≡_, refl, ap, _∙_}
 use mathlib.Core.Bool.{true}

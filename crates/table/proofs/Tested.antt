@@ -33,7 +33,7 @@ module _ (f : TableForm) (t : List ℕ) (checked : Checked) (e : checked ≡ che
       go true v r = absurd (let z : _≡_ {A = ℕ} 0 1 = cc in omega arith)
       go false v r = refl
 
--- ---- in the form that every table has
+-- ---- in the form of six-word rows
 
 module _ (t : List ℕ) (checked : Checked) (e : checked ≡ checkTable t) where
   pub table-valid : (shape : Shape) → checked ≡ Table shape → (validTable t ≡ true) × (shape ≡ shapeOf t)

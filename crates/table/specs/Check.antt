@@ -44,6 +44,6 @@ frontTable t = headed Invalid (λ n. cond (validFront t n) (Table (shapeOf t)) I
 unfoldable pub checkTableIn : TableForm → List ℕ → Checked
 checkTableIn f t = cond (validTableIn f t) (Table (shapeOf t)) Invalid
 
--- in the form that every table has
+-- in the form of six-word rows
 abbrev pub checkTable : List ℕ → Checked
 checkTable t = checkTableIn standardForm t

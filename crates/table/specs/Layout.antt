@@ -29,7 +29,7 @@ tableWordsIn f len ds rs =
     ++ (countWord (length rs)
     ∷ (flatIn (f .rows) (map (f .rawOf) rs) ++ replicate (len - (rowsAt (length ds) + f .rows .width * length rs)) 0))
 
--- ---- in the form that every table has
+-- ---- in the form of six-word rows
 
 abbrev pub capacity : ℕ → ℕ → ℕ
 capacity len n = capacityIn standardForm len n

@@ -39,7 +39,7 @@ unfoldable pub ownRowsIn : TableForm → List ℕ → List Row
 unfolding tableRowsIn
 ownRowsIn f t = trimmed (variablesOf t) (tableRowsIn f t)
 
--- ---- in the form that every table has
+-- ---- in the form of six-word rows
 
 abbrev pub rowsFrom : ℕ → List ℕ → List Row
 rowsFrom k ws = rowsFromIn standardForm k ws

@@ -1,4 +1,4 @@
--- Rows and the raw rows that carry them, in the form that every table has: what a raw row says, and the raw row that says it.
+-- Rows and the raw rows that carry them, in the form of six-word rows: what a raw row says, and the raw row that says it.
 use Rattle.wcsp.specs.Row.{Row}
 use Rattle.clause.specs.Packed.{signsOf}
 use Rattle.rows.specs.Raw.{maxWeight, Raw, rowForm, weightIn, rawRow, clauseIn, rowWeighs}

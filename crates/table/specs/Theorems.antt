@@ -56,7 +56,7 @@ ValidIsCanonicalIn f = (t : List ℕ) → validTableIn f t ≡ true → Canonica
 abbrev pub WrittenReadsBackIn : TableForm → Type 0
 WrittenReadsBackIn f = (len : ℕ) (ds : List ℕ) (rs : List Row) → HoldableIn f len ds rs → ReadsBackAs f (ownRowsIn f) len ds rs
 
--- ---- in the form that every table has
+-- ---- in the form of six-word rows
 
 abbrev pub Holdable : ℕ → List ℕ → List Row → Type 0
 Holdable len ds rs = HoldableIn standardForm len ds rs

@@ -21,7 +21,7 @@ TwelveIsCanonicalIn f = (t : List ℕ) → validTableIn f t ≡ true → Canonic
 abbrev pub TwelveWrittenIn : TableForm → Type 0
 TwelveWrittenIn f = (len : ℕ) (ds : List ℕ) (rs : List Row) → TwelveHoldableIn f len ds rs → ReadsBackAs f (tableRowsIn f) len ds rs
 
--- ---- in the form that every table has
+-- ---- in the form of six-word rows
 
 abbrev pub TwelveHoldable : ℕ → List ℕ → List Row → Type 0
 TwelveHoldable len ds rs = TwelveHoldableIn standardForm len ds rs

@@ -89,7 +89,7 @@ validTableIn f t =
     (λ n. validFront t n && withinCapacity f t n && rowsInRange f t n && noTwoEqual f t && zeroPast f t n)
     (headIn (getD t 0 0))
 
--- ---- in the form that every table has
+-- ---- in the form of six-word rows
 
 abbrev pub validTable : List ℕ → Bool
 validTable t = validTableIn standardForm t

@@ -208,10 +208,10 @@ pub fn zero_from(t: &mut [u32], at: usize)
     requires { ⌜ at ≤ length (now t) ⌝ }
     ensures { λ r. ⌜ now (t .exit) ≡ take at (now (t .entry)) ++ replicate (length (now (t .entry)) - at) 0 ⌝ }
 {
-    let mut end = at;
-    while end < t.len() {
-        t[end] = 0;
-        end += 1;
+    let mut place = at;
+    while place < t.len() {
+        t[place] = 0;
+        place += 1;
     }
 }
 

@@ -1,4 +1,4 @@
--- `room` answers the capacity in rows of the form that every table has.
+-- `room` answers the capacity in rows of six-word rows.
 use borrow.Author.Needs.{needs}
 use native.Mathlib.Omega.{arith}
 use Rattle.table.specs.Layout.{capacityIn}
