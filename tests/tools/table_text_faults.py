@@ -6,6 +6,7 @@ from checks import TABLE, called
 from reference import fields
 from reference.forms import FIVE, SIX
 from reference.planning import words_of
+from spoiling import spoiled
 from table_faults import valid_forms
 from table_shapes import random_rows, text_of
 
@@ -92,24 +93,6 @@ def room_cases():
         yield f"form six\nwords {words}\n{stations}row 0 weight 1", 5, f"{words} words are too few for 2 stations"
 
 
-def spoiled(rng, lines):
-    """A line left out, doubled, exchanged with another, or with another word in it."""
-    lines = list(lines)
-    at, other = rng.randrange(len(lines)), rng.randrange(len(lines))
-    change = rng.choice(["out", "twice", "exchanged", "word", "word", "word"])
-    if change == "out":
-        del lines[at]
-    elif change == "twice":
-        lines.insert(at, lines[at])
-    elif change == "exchanged":
-        lines[at], lines[other] = lines[other], lines[at]
-    else:
-        parts = lines[at].split(" ")
-        parts[rng.randrange(len(parts))] = rng.choice(lines[other].split(" ") + ["0", "1", "0/0", "268435456", "five", "six"])
-        lines[at] = " ".join(parts)
-    return lines
-
-
 def check_spoiled(checks):
     """What is taken of spoiled texts is a table by the reference; the other texts have a fault with a line."""
     rng, taken = random.Random("spoiled tables"), 0
@@ -117,7 +100,7 @@ def check_spoiled(checks):
         form = rng.choice([FIVE, SIX])
         sizes, rows = random_rows(rng, form)
         text = text_of(sizes, rows, fields.table_length(len(sizes), len(rows), rng.choice([0, 3, 9]), form), form).decode()
-        source = "\n".join(spoiled(rng, text.split("\n")))
+        source = "\n".join(spoiled(rng, text.split("\n"), ["0", "1", "0/0", "268435456", "five", "six"]))
         status, data, said = called(["make", "-"], source.encode(), TABLE)
         checks.same(f"the words of {source}", (bool(valid_forms(words_of(data))), said.startswith("standard input, line ")),
                     (status == 0, status == 1))

@@ -8,6 +8,7 @@ from reference.answers import Refused
 from reference.planning import words_of
 from common.fault import Fault
 from sheets.forms import text_to_words
+from spoiling import spoiled
 
 SPOILED = 1_000
 UNKNOWN = "a line begins with station, spot, cost, forbidden or #"
@@ -140,7 +141,7 @@ def refused_after_all(rng):
     wrong = []
     source = (ROOT / "examples" / "headland.txt").read_text().split("\n")
     for _ in range(SPOILED):
-        text = "\n".join(spoiled(rng, source))
+        text = "\n".join(spoiled(rng, source, ["0", "1/1", "5/2", "65536"]))
         try:
             inputs.read_sheet(words_of(text_to_words(text.encode())))
         except Fault:
@@ -148,21 +149,3 @@ def refused_after_all(rng):
         except Refused:
             wrong.append(text)
     return wrong
-
-
-def spoiled(rng, lines):
-    """A line left out, doubled, exchanged with another, or with another word in it."""
-    lines = list(lines)
-    at, other = rng.randrange(len(lines)), rng.randrange(len(lines))
-    change = rng.choice(["out", "twice", "exchanged", "word", "word", "word"])
-    if change == "out":
-        del lines[at]
-    elif change == "twice":
-        lines.insert(at, lines[at])
-    elif change == "exchanged":
-        lines[at], lines[other] = lines[other], lines[at]
-    else:
-        words = lines[at].split(" ")
-        words[rng.randrange(len(words))] = rng.choice(lines[other].split(" ") + ["0", "1/1", "5/2", "65536"])
-        lines[at] = " ".join(words)
-    return lines

@@ -1,13 +1,14 @@
 -- Rows rewritten in another form: the words of one row, and all rows of a source one after the other, behind the front of a target that has none.
-use Prim.Native.Nat.{ℕ, _+_, _*_, _≤_}
+use Prim.Native.Nat.{ℕ, _+_, _*_, _≤_, _<_}
 use native.Mathlib.Omega.{arith}
 use mathlib.Core.Path.{_≡_, sym, ap, ap₂, _∙_}
 use mathlib.Core.List.{List, [], _∷_, _++_, map, map-append}
 use lib.ListN.{length, getD, drop, set, length-map}
-use Rattle.words.specs.Layout.{payloadOf, signsWord, weightWord}
+use lib.Seq.{drop-cons}
+use Rattle.words.specs.Layout.{payloadOf, weightWord}
 use Rattle.clause.specs.declared.Clause.{Clause}
 use Rattle.rows.specs.Form.{rawsFromIn, LaidIn, LeftIn}
-use Rattle.rows.specs.Raw.{rawAt, weightIn, rawRow, clauseIn}
+use Rattle.rows.specs.Raw.{rawAt, weightIn, rawRow, signWordsIn, clauseIn}
 use Rattle.rows.proofs.FormRows.{FormLaws}
 use Rattle.rows.proofs.FormTables.{left-trans, left-refl, left-read, left-laid}
 use Rattle.table.specs.Form.{TableForm}
@@ -20,16 +21,12 @@ use Rattle.conversion.specs.Five.{fiveWidth, fiveWords, fiveAt, fiveRowO
 
 -- ---- one row
 
--- five words stored at the front of a part
-pub five-stored : (p : List ℕ) (x : Clause) (weight v₀ v₁ v₂ v₃ v₄ : ℕ) → fiveWidth ≤ length p
-    → v₀ ≡ signsWord 0 (x .a) → v₁ ≡ signsWord 1 (x .b) → v₂ ≡ signsWord 2 (x .c) → v₃ ≡ signsWord 3 (x .d) → v₄ ≡ weightWord weight
-    → set (set (set (set (set p 0 v₀) 1 v₁) 2 v₂) 3 v₃) 4 v₄ ≡ fiveWords (fiveRow x weight) ++ drop fiveWidth p
-five-stored [] x weight v₀ v₁ v₂ v₃ v₄ h e₀ e₁ e₂ e₃ e₄ = absurd (omega arith)
-five-stored (a ∷ []) x weight v₀ v₁ v₂ v₃ v₄ h e₀ e₁ e₂ e₃ e₄ = absurd (omega arith)
-five-stored (a ∷ b ∷ []) x weight v₀ v₁ v₂ v₃ v₄ h e₀ e₁ e₂ e₃ e₄ = absurd (omega arith)
-five-stored (a ∷ b ∷ c ∷ []) x weight v₀ v₁ v₂ v₃ v₄ h e₀ e₁ e₂ e₃ e₄ = absurd (omega arith)
-five-stored (a ∷ b ∷ c ∷ d ∷ []) x weight v₀ v₁ v₂ v₃ v₄ h e₀ e₁ e₂ e₃ e₄ = absurd (omega arith)
-five-stored (a ∷ b ∷ c ∷ d ∷ w ∷ p) x weight v₀ v₁ v₂ v₃ v₄ h e₀ e₁ e₂ e₃ e₄ = λ i. e₀ i ∷ e₁ i ∷ e₂ i ∷ e₃ i ∷ e₄ i ∷ p
+-- the weight's word stored behind the sign words
+pub five-stored : (p q : List ℕ) (x : Clause) (weight v : ℕ) → fiveWidth ≤ length p → q ≡ signWordsIn (rawRow x 0) ++ drop 4 p → v ≡ weightWord weight
+    → set q 4 v ≡ fiveWords (fiveRow x weight) ++ drop fiveWidth p
+five-stored p q x weight v h s e =
+    let l : 4 < length p = omega arith in
+    rw (s, drop-cons p 4 0 l) (ap (λ w. signWordsIn (rawRow x 0) ++ (w ∷ drop fiveWidth p)) e)
 
 -- the six words of the row that the five words at a place say
 pub six-of-five : (t : List ℕ) (at place : ℕ) → at ≡ place → (x : Clause) (weight : ℕ) → x ≡ clauseIn (rawAt t at) → weight ≡ payloadOf (getD t (at + 4) 0)

@@ -142,10 +142,7 @@ fn write_five_row(part: &mut [u32], x: Clause, weight: u32)
     requires { ⌜ (fiveWidth ≤ length (now part)) × FitsBlocks x × (weight ≤ fiveMaxWeight) ⌝ }
     ensures { λ r. ⌜ now (part .exit) ≡ fiveWords (fiveRow x weight) ++ drop fiveWidth (now (part .entry)) ⌝ }
 {
-    part[0] = words::signs(0, x.a);
-    part[1] = words::signs(1, x.b);
-    part[2] = words::signs(2, x.c);
-    part[3] = words::signs(3, x.d);
+    rows::write_signs(part, x);
     part[4] = words::weight(weight);
 }
 

@@ -3,13 +3,13 @@ use Prim.Native.Nat.{ℕ, suc, _+_, _*_, _/_, _%_, _≤_, _<_}
 use native.Mathlib.Nat.{add-suc}
 use native.Mathlib.Numerals.{add-one, add-two, add-three, add-four}
 use native.Mathlib.Omega.{arith}
-use mathlib.Core.Path.{_≡_, refl, sym, ap, _∙_}
+use mathlib.Core.Path.{_≡_, sym, ap, _∙_}
 use mathlib.Core.List.{List, [], _∷_, _++_, append-assoc}
 use lib.ListN.{length, getD, take, drop, set, replicate, getD-replicate, length-drop}
-use lib.Seq.{sets-eq, set-getD, getD-drop, getD-take, paste, paste-suc, drop-paste, take-all, length-take-le}
+use lib.Seq.{sets-eq, set-getD, getD-drop, getD-take, paste, paste-suc, drop-drop, drop-paste, take-all, length-take-le}
 use Rattle.clause.specs.declared.Clause.{Clause}
 use Rattle.words.specs.Layout.{signsWord, weightWord, highWord}
-use Rattle.rows.specs.Raw.{rowWidth, highUnit, rawWords, rawAt, rawsIn, rowForm, Laid, Left, weighing, signWords, rawRow, reweighed}
+use Rattle.rows.specs.Raw.{rowWidth, highUnit, rawWords, rawAt, rawsIn, rowForm, Laid, Left, weighing, rawRow, signWordsIn, reweighed}
 use Rattle.rows.proofs.Flat.{rowLaws, length-rawsFrom, raw-at}
 use Rattle.rows.proofs.FormTables.{row-replaced}
 
@@ -73,21 +73,21 @@ row-reweighed t t′ base count k weight l h e =
 
 -- ---- a row at the front of a part
 
-signs-stored : (p : List ℕ) (v₀ v₁ v₂ v₃ weight : ℕ) → 4 ≤ length p
-    → let q = set (set (set (set p 0 v₀) 1 v₁) 2 v₂) 3 v₃ in
-    rawWords (weighing (rawAt q 0) weight) ++ drop rowWidth q ≡ rawWords (weighing (signWords v₀ v₁ v₂ v₃) weight) ++ drop rowWidth p
-unfolding rawAt
-signs-stored [] v₀ v₁ v₂ v₃ weight h = absurd (omega arith)
-signs-stored (a ∷ []) v₀ v₁ v₂ v₃ weight h = absurd (omega arith)
-signs-stored (a ∷ b ∷ []) v₀ v₁ v₂ v₃ weight h = absurd (omega arith)
-signs-stored (a ∷ b ∷ c ∷ []) v₀ v₁ v₂ v₃ weight h = absurd (omega arith)
-signs-stored (a ∷ b ∷ c ∷ d ∷ p) v₀ v₁ v₂ v₃ weight h = refl
-
-pub row-stored : (p p′ : List ℕ) (x : Clause) (v₀ v₁ v₂ v₃ weight : ℕ) → rowWidth ≤ length p
+pub signs-stored : (p : List ℕ) (x : Clause) (v₀ v₁ v₂ v₃ : ℕ) → 4 ≤ length p
     → v₀ ≡ signsWord 0 (x .a) → v₁ ≡ signsWord 1 (x .b) → v₂ ≡ signsWord 2 (x .c) → v₃ ≡ signsWord 3 (x .d)
-    → let q = set (set (set (set p 0 v₀) 1 v₁) 2 v₂) 3 v₃ in
-    p′ ≡ take 0 q ++ (rawWords (weighing (rawAt q 0) weight) ++ drop (0 + rowWidth) q)
+    → set (set (set (set p 0 v₀) 1 v₁) 2 v₂) 3 v₃ ≡ signWordsIn (rawRow x 0) ++ drop 4 p
+signs-stored [] x v₀ v₁ v₂ v₃ h e₀ e₁ e₂ e₃ = absurd (omega arith)
+signs-stored (a ∷ []) x v₀ v₁ v₂ v₃ h e₀ e₁ e₂ e₃ = absurd (omega arith)
+signs-stored (a ∷ b ∷ []) x v₀ v₁ v₂ v₃ h e₀ e₁ e₂ e₃ = absurd (omega arith)
+signs-stored (a ∷ b ∷ c ∷ []) x v₀ v₁ v₂ v₃ h e₀ e₁ e₂ e₃ = absurd (omega arith)
+signs-stored (a ∷ b ∷ c ∷ d ∷ p) x v₀ v₁ v₂ v₃ h e₀ e₁ e₂ e₃ = λ i. e₀ i ∷ e₁ i ∷ e₂ i ∷ e₃ i ∷ p
+
+-- the weight written behind the sign words
+pub row-stored : (p q p′ : List ℕ) (x : Clause) (weight : ℕ) → q ≡ signWordsIn (rawRow x 0) ++ drop 4 p
+    → p′ ≡ take 0 q ++ (rawWords (weighing (rawAt q 0) weight) ++ drop (0 + rowWidth) q)
     → p′ ≡ rawWords (rawRow x weight) ++ drop rowWidth p
-row-stored p p′ x v₀ v₁ v₂ v₃ weight h e₀ e₁ e₂ e₃ e =
-    e ∙ signs-stored p v₀ v₁ v₂ v₃ weight (omega arith)
-    ∙ λ i. rawWords (weighing (signWords (e₀ i) (e₁ i) (e₂ i) (e₃ i)) weight) ++ drop rowWidth p
+unfolding rawAt
+row-stored p q p′ x weight s e =
+    e
+    ∙ ap (λ t. rawWords (weighing (rawAt t 0) weight) ++ drop rowWidth t) s
+    ∙ ap (λ t. rawWords (rawRow x weight) ++ t) (drop-drop 2 4 p)

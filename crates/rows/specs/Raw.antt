@@ -76,7 +76,10 @@ signWords a b c d = record { a = a; b = b; c = c; d = d; low = 0; high = 0 }
 abbrev pub rawRow : Clause → ℕ → Raw
 rawRow x weight = weighing (signWords (signsWord 0 (x .a)) (signsWord 1 (x .b)) (signsWord 2 (x .c)) (signsWord 3 (x .d))) weight
 
--- the clause of a raw row
+-- the sign words and the clause of a raw row
+abbrev pub signWordsIn : Raw → List ℕ
+signWordsIn r = r .a ∷ r .b ∷ r .c ∷ r .d ∷ []
+
 abbrev pub clauseIn : Raw → Clause
 clauseIn r = record { a = r .a % 16777216; b = r .b % 16777216; c = r .c % 16777216; d = r .d % 16777216 }
 

@@ -4,7 +4,7 @@ ghost use mathlib.Core.List.{[], _∷_, _++_};
 ghost use Prim.Native.Nat.{_+_, _*_, _<_, _≤_};
 ghost use lib.ListN.{length, getD, take, drop, replicate};
 ghost use Rattle.clause.specs.Packed.{FitsBlocks};
-ghost use Rattle.rows.specs.Raw.{rowWidth, maxWeight, rawWords, rawAt, rawsIn, Laid, Left, weightIn, rowWeighs, weighing, rawRow, clauseIn, findFrom, reweighed, without};
+ghost use Rattle.rows.specs.Raw.{rowWidth, maxWeight, rawWords, rawAt, rawsIn, Laid, Left, weightIn, rowWeighs, weighing, rawRow, signWordsIn, clauseIn, findFrom, reweighed, without};
 ghost use Rattle.rows.specs.Adding.{added, Addable};
 use clause::Clause;
 
@@ -134,6 +134,17 @@ pub fn find(t: &[u32], base: usize, count: usize, x: Clause) -> Found
     Found::Missing
 }
 
+// A clause's sign words at the front of the part it is lent.
+pub fn write_signs(part: &mut [u32], x: Clause)
+    requires { ⌜ (4 ≤ length (now part)) × FitsBlocks x ⌝ }
+    ensures { λ r. ⌜ now (part .exit) ≡ signWordsIn (rawRow x 0) ++ drop 4 (now (part .entry)) ⌝ }
+{
+    part[0] = words::signs(0, x.a);
+    part[1] = words::signs(1, x.b);
+    part[2] = words::signs(2, x.c);
+    part[3] = words::signs(3, x.d);
+}
+
 // The weight of the row whose words start at this place, behind its sign words.
 fn write_weight(t: &mut [u32], at: usize, weight: u64)
     requires { ⌜ (at + rowWidth ≤ length (now t)) × (weight ≤ maxWeight) ⌝ }
@@ -148,10 +159,7 @@ fn write_row(part: &mut [u32], x: Clause, weight: u64)
     requires { ⌜ (rowWidth ≤ length (now part)) × FitsBlocks x × (weight ≤ maxWeight) ⌝ }
     ensures { λ r. ⌜ now (part .exit) ≡ rawWords (rawRow x weight) ++ drop rowWidth (now (part .entry)) ⌝ }
 {
-    part[0] = words::signs(0, x.a);
-    part[1] = words::signs(1, x.b);
-    part[2] = words::signs(2, x.c);
-    part[3] = words::signs(3, x.d);
+    write_signs(part, x);
     write_weight(part, 0, weight);
 }
 

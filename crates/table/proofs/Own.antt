@@ -1,6 +1,6 @@
 -- A table's own rows: the rows that its words mean are these, widened to twelve signs; so valid tables are canonical over the table's own variables,
 -- and what was written reads back.
-use Prim.Native.Nat.{ℕ, _-_}
+use Prim.Native.Nat.{ℕ}
 use native.Mathlib.Omega.{arith}
 use mathlib.Core.Path.{_≡_, refl, sym, ap, ap₂, _∙_}
 use mathlib.Core.Bool.{true}

@@ -1,5 +1,4 @@
--- `room` answers the capacity in rows of six-word rows.
-use borrow.Author.Needs.{needs}
+-- `room` answers the capacity in six-word rows.
 use native.Mathlib.Omega.{arith}
 use Rattle.table.specs.Layout.{capacityIn}
 use Rattle.table.proofs.room.Statement.{statement}
