@@ -2,7 +2,7 @@
 -- A step call and a run go on in six-word rows and refuse five-word ones; a good conversion has the same rows in the other form.
 use Prim.Native.Nat.{ℕ}
 use mathlib.Core.Path.{_≡_, refl, _∙_}
-use mathlib.Core.Logic.{_⊎_, inl, inr}
+use mathlib.Core.Logic.{inl, inr}
 use mathlib.Core.Bool.{Bool, true, false, cond}
 use mathlib.Core.List.{List, [], _∷_, _++_, append-nil}
 use lib.ListN.{length, take}
@@ -29,7 +29,7 @@ use Rattle.checker.proofs.Encoded.{coded, coded-table}
 use Rattle.checker.proofs.Claims.{coded-takes, encoded-left}
 use Rattle.checker.proofs.Kept.{Takes, Keeps, encoded-keeps}
 use Rattle.checker.proofs.Replaying.{Left, left-held}
-use Rattle.calls.specs.Calls.{Call, stepAsked, runAsked, planAsked, sixAsked, fiveAsked, State, wordsOfStep, handedOn, afterCall, afterCalls, started, Derives}
+use Rattle.calls.specs.Calls.{Call, stepAsked, runAsked, planAsked, sixAsked, fiveAsked, State, wordsOfStep, handedOn, afterCall, afterCalls, Derives}
 use Rattle.calls.specs.Demand.{ComesIn, Comes, EncodedComes}
 use Rattle.calls.proofs.Reaching.{derives-append, derives-keeps, reaches-derives}
 use Rattle.calls.proofs.Moving.{Moved, step-moved, run-moved, moved-held}

@@ -2,13 +2,13 @@
 use Prim.Native.Nat.{ℕ, _<_}
 use mathlib.Core.Path.{_≡_}
 use mathlib.Core.Bool.{true, false}
-use mathlib.Core.List.{List, []}
+use mathlib.Core.List.{List}
 use lib.ListN.{length}
 use Rattle.wcsp.specs.Row.{falsified}
 use Rattle.fields.specs.Answers.{good}
 use Rattle.table.specs.Form.{TableForm}
 use Rattle.table.specs.Raws.{standardForm}
-use Rattle.table.specs.Meaning.{variablesOf, tableSizes, rowCount, ownRowsIn}
+use Rattle.table.specs.Meaning.{tableSizes, rowCount, ownRowsIn}
 use Rattle.table.specs.Valid.{validTableIn, validTable}
 use Rattle.conversion.specs.Five.{fiveForm}
 use Rattle.conversion.specs.Calls.{convertCall}

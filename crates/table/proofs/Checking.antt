@@ -22,7 +22,6 @@ use Rattle.fields.proofs.Fronts.{head-some, good-long}
 use Rattle.fields.proofs.Sizes.{sizes-each}
 use Rattle.table.specs.declared.Head.{Head}
 use Rattle.table.specs.declared.Head.the-variants.{Variables, Absent}
-use Rattle.table.specs.declared.Fulls.{Fulls}
 use Rattle.table.specs.declared.Fulls.the-variants.{Signs, Bad}
 use Rattle.table.specs.declared.Shape.{Shape}
 use Rattle.table.specs.declared.Checked.{Checked}
