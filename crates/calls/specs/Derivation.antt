@@ -30,7 +30,7 @@ mostRows ds rs (w ∷ ws) = max (length rs) (mostRows ds (resolve ds (wordPair w
 abbrev pub needs : List ℕ → List ℕ → ℕ
 needs inst ws = mostRows (sizesOf inst) (encodedRows inst) ws
 
--- a work table has the words of head, sizes and row count
+-- a work table is long enough for head, sizes and row count
 abbrev pub TakesFront : List ℕ → List ℕ → Type 0
 TakesFront inst work = rowsAt (length (sizesOf inst)) ≤ length work
 
@@ -39,7 +39,8 @@ abbrev pub Accepts : List ℕ → List ℕ → List ℕ → List Row → List �
 Accepts inst ws plan rs work =
     checkCall inst ws plan (emptyWeight (length (sizesOf inst)) rs) work .answer ≡ record { number = 0; steps = length ws }
 
--- by whatever calls and in whatever slices the steps were made, once no pair is left: of the assignment rebuilt from the rows
+-- room for the most rows is enough, by whatever calls and in whatever slices the steps were made, once no pair is left: with the assignment rebuilt
+-- from the rows
 abbrev pub AcceptedWithRoom : Type 0
 AcceptedWithRoom = (inst ws : List ℕ) (rs : List Row) → instanceFault inst ≡ 0 → Derives (sizesOf inst) (encodedRows inst) ws rs
     → nextPair (sizesOf inst) rs ≡ none

@@ -1,6 +1,7 @@
 -- P1 of document 01 on words meets each hypothesis of demand 3, of an accepted derivation and of the driver's. What the calls refuse, and how
 -- a run ends that is not done: on P1 too, and on a field whose table is too short for its first step. What P1 comes to stands in WordCases.
--- Then forbidden combinations: a field with one spot over a drain, and one with both; and P1's table converted on the way, and room for the most rows.
+-- Then forbidden combinations: a field with one spot over a drain, and one with both. Then P1's table converted on the way, P2's half resolved and
+-- in five-word rows, and room for the most rows.
 use Prim.Native.Nat.{ℕ, _+_, _-_, _*_, _<_}
 use mathlib.Core.Path.{_≡_}
 use mathlib.Core.Bool.{true, false}

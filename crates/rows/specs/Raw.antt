@@ -1,5 +1,5 @@
--- Raw rows of six words, the form that all calls but one take: four sign words and the weight's two words, of any content. The width, the greatest weight,
--- and how a weight lies in a row's words and is told from other words stand here alone.
+-- Raw rows of six words, the form that all calls but one take: four sign words and the weight's two words, of any content. The width, the
+-- greatest weight, and how a weight lies in a row's words and is told from other words stand here alone.
 use Prim.Native.Nat.{ℕ, zero, suc, _+_, _*_, _/_, _%_}
 use mathlib.Core.Bool.{Bool, not, _&&_, cond}
 use mathlib.Core.List.{List, [], _∷_}
