@@ -24,9 +24,16 @@ class Lines:
     def refuse(self, reason):
         raise Fault(f"line {self.line}", reason)
 
-    def take_text(self, text):
+    def finished(self):
+        """What all lines together say."""
+        raise NotImplementedError
+
+    @classmethod
+    def read(cls, text):
+        lines = cls()
         for line in text.split("\n"):
-            self.take_line(line)
+            lines.take_line(line)
+        return lines.finished()
 
     def take_line(self, line):
         self.line += 1

@@ -52,9 +52,7 @@ def entry_text(entry):
 
 
 def read_text(text):
-    draft = Draft()
-    draft.take_text(text)
-    return draft.finished()
+    return Draft.read(text)
 
 
 class Draft(Lines):

@@ -42,9 +42,7 @@ def row_text(number, row):
 
 
 def read_text(text):
-    draft = Draft()
-    draft.take_text(text)
-    return draft.finished()
+    return Draft.read(text)
 
 
 class Draft(Lines):

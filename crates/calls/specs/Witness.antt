@@ -30,7 +30,7 @@ use Rattle.checker.specs.Calls.{checkCall}
 use Rattle.calls.specs.Calls.{Call, stepAsked, runAsked, planAsked, sixAsked, fiveAsked, State, started, afterCalls}
 use Rattle.calls.specs.Derivation.{needs}
 use Rattle.calls.specs.Driver.{DriveReturned, driveAll}
-use Rattle.calls.specs.WordCases.{p1}
+use Rattle.calls.specs.WordCases.{p1, p2}
 
 -- a slice that takes two rows of one variable, or of two, whatever lay in it
 abbrev pub lent : List ℕ
@@ -70,10 +70,7 @@ convertingCalls = fiveAsked (replicate 13 9) ∷ stepAsked ∷ sixAsked (replica
 abbrev pub convertedBy : ℕ → State
 convertedBy k = afterCalls (started p1 lent) (take k convertingCalls)
 
--- P2's field, and its table after one step of three, back in five-word rows
-abbrev pub p2 : List ℕ
-p2 = headWord 1 ∷ sizeWord 3 ∷ bindingWord 0 0 ∷ costWord 2 ∷ bindingWord 0 1 ∷ costWord 1 ∷ bindingWord 0 2 ∷ costWord 4 ∷ []
-
+-- P2's table after one step of three, back in five-word rows
 abbrev pub halfway : State
 halfway = afterCalls (started p2 (replicate 21 7)) (stepAsked ∷ fiveAsked (replicate 18 9) ∷ [])
 

@@ -101,6 +101,9 @@ wordsComputed c =
 abbrev pub p1 : List ℕ
 p1 = headWord 1 ∷ sizeWord 2 ∷ bindingWord 0 0 ∷ costWord 3 ∷ bindingWord 0 1 ∷ costWord 1 ∷ []
 
+abbrev pub p2 : List ℕ
+p2 = headWord 1 ∷ sizeWord 3 ∷ bindingWord 0 0 ∷ costWord 2 ∷ bindingWord 0 1 ∷ costWord 1 ∷ bindingWord 0 2 ∷ costWord 4 ∷ []
+
 -- The values are document 01's; those that it leaves out are worked out by hand from its rules.
 unfoldable pub wordCases : List WordCase
 wordCases =
@@ -115,9 +118,7 @@ wordCases =
     }
     -- P2: three values, costs 2, 1 and 4
     ∷ record {
-      given =
-          instanceIn (rowsAt 1 + 3 * rowWidth)
-          (headWord 1 ∷ sizeWord 3 ∷ bindingWord 0 0 ∷ costWord 2 ∷ bindingWord 0 1 ∷ costWord 1 ∷ bindingWord 0 2 ∷ costWord 4 ∷ []);
+      given = instanceIn (rowsAt 1 + 3 * rowWidth) p2;
       before = (6 ∷ []) weighted 2 ∷ (5 ∷ []) weighted 1 ∷ (3 ∷ []) weighted 4 ∷ [];
       steps = 3;
       after = (3 ∷ []) weighted 2 ∷ (2 ∷ []) weighted 1 ∷ (0 ∷ []) weighted 1 ∷ [];

@@ -27,10 +27,10 @@ use Rattle.table.proofs.TableLaws.{TableLaws}
 use Rattle.table.proofs.FormTables.{PassedIn, passed, length-sizes, length-rows, passed-room, room-rows, length-words, twelveIsCanonical}
 use Rattle.table.proofs.FormFinishing.{laid-words, finished}
 use Rattle.table.proofs.Tested.{table-invalid-in}
-use Rattle.table.proofs.Own.{own-widens-in, own-wide-in, words-wide-in}
+use Rattle.table.proofs.Own.{own-widens-in, own-wide-in, own-count-in, words-wide-in}
 use Rattle.conversion.specs.Calls.{ConvertReturned, convertCall}
 use Rattle.conversion.proofs.Starting.{none-started}
-use Rattle.conversion.proofs.Theorems.{of-good, own-count, light-above}
+use Rattle.conversion.proofs.Theorems.{of-good, light-above}
 
 -- what the call returns and leaves
 abbrev pub Converted : TableForm → TableForm → List ℕ → List ℕ → Answer → List ℕ → Type 0
@@ -68,7 +68,7 @@ module _ (f g : TableForm) (law : TableLaws f) (other : TableLaws g) (source tar
   sizes-long = length-sizes f law source tests ∙ sym variables
 
   own-long : length (ownRowsIn f source) ≡ shape .count
-  own-long = own-count f law source valid ∙ sym count
+  own-long = own-count-in f law source valid ∙ sym count
 
   pub few : shape .variables ≤ maxVariables
   few = omega (arith, variables, tests .few)

@@ -24,10 +24,10 @@ use Rattle.table.specs.Meaning.{variablesOf, rowCount, domains, rowsFromIn, tab
 use Rattle.table.specs.Valid.{isSigns, signKinds, validSigns, validRowIn, rowsValidIn, distinctRows, allZero, validFront, withinCapacity, rowsInRange, noTwoEqual, zeroPast, validTableIn, validTable}
 use Rattle.table.proofs.FormTables.{passed}
 use Rattle.table.proofs.RawRows.{tableLaws}
+use Rattle.table.proofs.Own.{own-count-in}
 use Rattle.conversion.specs.Five.{fiveForm}
 use Rattle.conversion.specs.Theorems.{OneFormWithRows, BothWithoutRows}
 use Rattle.conversion.proofs.FiveLaws.{fiveLaws}
-use Rattle.conversion.proofs.Theorems.{own-count}
 
 -- ---- with rows
 
@@ -137,5 +137,5 @@ pub same-rows : (t : List ℕ) → validTableIn fiveForm t ≡ true → validTab
 same-rows t v w = go (rowCount t) refl
   where
     go : (k : ℕ) → rowCount t ≡ k → ownRowsIn fiveForm t ≡ ownRows t
-    go zero e = none-of (ownRowsIn fiveForm t) (own-count fiveForm fiveLaws t v ∙ e) ∙ sym (none-of (ownRows t) (own-count standardForm tableLaws t w ∙ e))
+    go zero e = none-of (ownRowsIn fiveForm t) (own-count-in fiveForm fiveLaws t v ∙ e) ∙ sym (none-of (ownRows t) (own-count-in standardForm tableLaws t w ∙ e))
     go (suc k) e = absurd (false≢true (sym (oneFormWithRows t v (omega arith)) ∙ w))

@@ -14,13 +14,13 @@ use Rattle.rows.specs.Raw.{maxWeight}
 use Rattle.table.specs.Form.{TableForm}
 use Rattle.table.specs.Raws.{standardForm}
 use Rattle.table.specs.Layout.{rowsAt, capacityIn, tableWordsIn}
-use Rattle.table.specs.Meaning.{variablesOf, tableSizes, rowCount, ownRowsIn}
+use Rattle.table.specs.Meaning.{variablesOf, tableSizes, ownRowsIn}
 use Rattle.table.specs.Valid.{validTableIn}
 use Rattle.table.specs.Theorems.{HoldableIn}
 use Rattle.table.proofs.TableLaws.{TableLaws}
-use Rattle.table.proofs.FormTables.{passed, length-sizes, length-rows}
+use Rattle.table.proofs.FormTables.{passed, length-sizes}
 use Rattle.table.proofs.RawRows.{tableLaws}
-use Rattle.table.proofs.Own.{validIsCanonicalIn, writtenReadsBackIn, own-widens-in}
+use Rattle.table.proofs.Own.{validIsCanonicalIn, writtenReadsBackIn, own-count-in}
 use Rattle.conversion.specs.Five.{fiveMaxWeight, fiveForm}
 use Rattle.conversion.specs.Calls.{ConvertReturned, convertCall}
 use Rattle.conversion.specs.Theorems.{KeepsIn, BackIn, Conversions}
@@ -118,9 +118,6 @@ module _ (f g : TableForm) (law : TableLaws f) (other : TableLaws g) where
         weights = λ p. ap (falsified p) (b .rows);
       })
 
-pub own-count : (f : TableForm) → TableLaws f → (t : List ℕ) → validTableIn f t ≡ true → length (ownRowsIn f t) ≡ rowCount t
-own-count f law t v = sym (own-widens-in f law t v .count) ∙ length-rows f law t (passed f t v)
-
 -- there and back, for two forms
 module _ (f g : TableForm) (law : TableLaws f) (other : TableLaws g) where
   back : BackIn f g
@@ -139,7 +136,7 @@ module _ (f g : TableForm) (law : TableLaws f) (other : TableLaws g) where
         light = rw (s .rows) (c .holdable .light);
         fits = rw (s .rows, n, long) (rw m at (c .holdable .fits));
       } in
-      of-good g f there again k ∙ rw (s .rows, s .sizes, long, own-count f law source (h .valid), ← c .words)
+      of-good g f there again k ∙ rw (s .rows, s .sizes, long, own-count-in f law source (h .valid), ← c .words)
 
 pub conversions : Conversions
 conversions =

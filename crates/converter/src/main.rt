@@ -82,7 +82,7 @@ fn convert_table(asked: u32, bytes: &[u8], out: &mut [u8]) -> usize
 }
 
 // The answer to a request's bytes.
-pub fn convert_bytes(bytes: &[u8], out: &mut [u8]) -> usize
+fn convert_bytes(bytes: &[u8], out: &mut [u8]) -> usize
     requires { ⌜ 4 * mostWords ≤ length (now out) ⌝ }
     ensures { λ r. ⌜ (take r (now (out .exit)) ≡ convertedBytes (now (bytes .entry))) × (r ≤ length (now (out .exit))) ⌝ }
 {

@@ -25,7 +25,7 @@ use Rattle.table.specs.Twelve.{TwelveHoldableIn}
 use Rattle.table.proofs.TableLaws.{TableLaws}
 use Rattle.table.proofs.FormTables as forms
 use Rattle.table.proofs.RawRows.{tableLaws}
-use Rattle.table.proofs.Finishing.{valid-variables, valid-count}
+use Rattle.table.proofs.Finishing.{valid-variables}
 use Rattle.table.proofs.Held.{HeldAs, held-as}
 
 -- ---- in any form
@@ -59,6 +59,9 @@ module _ (f : TableForm) (law : TableLaws f) where
     pub own-wide-in : tableRowsIn f t ≡ wideRows (lacking (tableSizes t)) (ownRowsIn f t)
     unfolding padded
     own-wide-in = rw own-are (wideTrims (lacking (tableSizes t)) (tableSizes t) (tableRowsIn f t) valid-twelve)
+
+    pub own-count-in : length (ownRowsIn f t) ≡ rowCount t
+    own-count-in = sym (own-widens-in .count) ∙ forms.length-rows f law t (forms.passed f t v)
 
   pub validIsCanonicalIn : ValidIsCanonicalIn f
   unfolding padded
@@ -153,7 +156,7 @@ abbrev pub Held : List ℕ → ℕ → List ℕ → List Row → Type 0
 Held t len ds rs = HeldAs ownRows t len ds rs
 
 own-count : (t : List ℕ) → validTable t ≡ true → length (ownRows t) ≡ rowCount t
-own-count t v = sym (own-widens t v .count) ∙ valid-count t v
+own-count t v = own-count-in standardForm tableLaws t v
 
 pub held : (t : List ℕ) (len : ℕ) (ds : List ℕ) (rs : List Row) → Holdable len ds rs → t ≡ tableWords len ds rs → Held t len ds rs
 held t len ds rs h e = held-as ownRows own-count t len ds rs (writtenReadsBack len ds rs h) e
