@@ -1,6 +1,6 @@
 -- Steps on the next pair: what a list of calls makes of rows. They keep sizes and entries. Those whose rows all fit, as they do in one slice, are
 -- replayed to the end, since the step word of every pair reads back.
-use Prim.Native.Nat.{ℕ, suc, _+_, _≤_, _<_}
+use Prim.Native.Nat.{ℕ, suc, _+_, _≤_}
 use native.Mathlib.Omega.{arith}
 use mathlib.Core.Path.{_≡_, ap, _∙_}
 use mathlib.Core.List.{List, [], _∷_, _++_}
@@ -12,10 +12,9 @@ use Rattle.wcsp.specs.Entry.{Entry}
 use Rattle.wcsp.specs.Resolve.{Pair, nextPair, resolve, Steps}
 use Rattle.wcsp.proofs.NextPair.{next-permitted}
 use Rattle.words.specs.Layout.{kindOf}
-use Rattle.words.proofs.Reading.{read-step}
-use Rattle.words.proofs.Inverse.{step-kind}
 use Rattle.fields.specs.Entries.{FieldSizes, Entries}
 use Rattle.stepping.specs.Step.{stepsTo, pairWord, wordPair}
+use Rattle.resolution.proofs.Climbing as climbing
 use Rattle.checker.specs.Replay.{permittedPair, namedPair, replayOn, replayWord, replayNext, replay}
 use Rattle.checker.proofs.Kept.{Keeps, step-keeps}
 use Rattle.checker.proofs.Replaying.{Left, allowed-room, permitted-passes}
@@ -65,15 +64,7 @@ module _ {ds : List ℕ} {es : List Entry} {cap : ℕ} where
   module _ (s : FieldSizes ds) (n : Entries ds 0 es) (small : cap ≤ 4096) where
     -- the step word of the next pair is of its kind, and names it
     pub next-named : (rs : List Row) (pr : Pair) → nextPair ds rs ≡ some pr → length rs ≤ cap → (kindOf (pairWord pr) ≡ 7) × (wordPair (pairWord pr) ≡ pr)
-    next-named rs pr e fits =
-        let m = next-permitted ds rs pr e in
-        let t = s .most in
-        let v : pr .variable < 16 = omega (arith, m .known) in
-        let j : pr .second < 4096 = omega (arith, m .inTable) in
-        let i : pr .first < 4096 = omega (arith, m .ordered) in
-        let (k, a, b, c) =
-        step-kind (pairWord pr) (pr .variable) (pr .first) (pr .second) (read-step (pr .variable) (pr .first) (pr .second) v i j) in
-        (k, λ x. record { variable = a x; first = b x; second = c x })
+    next-named rs pr e fits = climbing.next-named ds (s .most) rs (omega (arith, fits, small)) pr e
 
     -- so it is the pair that a replay finds
     pub next-found : (rs : List Row) (pr : Pair) → nextPair ds rs ≡ some pr → length rs ≤ cap → namedPair ds rs (pairWord pr) ≡ some pr

@@ -1,7 +1,7 @@
 -- The search taken up from a later place: rows that do not go with the first are passed over, and so are first rows that go with none.
 use Prim.Native.Nat.{ℕ, suc, _<_, _≤_}
-use mathlib.Core.Path.{_≡_, refl, sym, _∙_}
-use mathlib.Core.Bool.{Bool, true, false, not, false≢true}
+use mathlib.Core.Path.{_≡_, sym, _∙_}
+use mathlib.Core.Bool.{true, false, not, false≢true}
 use mathlib.Core.List.{List}
 use mathlib.Core.Option.{none, some}
 use lib.ListN.{length, getD, drop, drop-of-length-le}
@@ -14,31 +14,18 @@ use Rattle.wcsp.specs.Resolve.{noRow, candidate, partner, pairIn}
 use Rattle.wcsp.proofs.Lists.{and-left, and-right}
 use Rattle.wcsp.proofs.PairSearch.{signsAt, partner-here, partner-later, pairIn-here, pairIn-later}
 use Rattle.wcsp.proofs.PairFound.{partner-is-none}
-use Rattle.wcsp.proofs.NextPair.{candidate-goes, goes-candidate}
+use Rattle.wcsp.proofs.NextPair.{candidate-goes, goes-candidate, not-candidate, other-first}
 
 -- ---- the test for a candidate
 
 module _ (ds : List ℕ) (s : ℕ) (x y : List ℕ) where
-  not-goes : (candidate ds s x y ≡ true → ⊥) → candidate ds s x y ≡ false
-  not-goes n = go (candidate ds s x y) refl
-    where
-      go : (b : Bool) → candidate ds s x y ≡ b → b ≡ false
-      go true e = absurd (n e)
-      go false e = refl
-
-  pub other-first : (bucket x ≡ s → ⊥) → candidate ds s x y ≡ false
-  other-first n = not-goes (λ e. n (candidate-goes ds s x y e .firstIn))
-
-  pub other-second : (bucket y ≡ s → ⊥) → candidate ds s x y ≡ false
-  other-second n = not-goes (λ e. n (candidate-goes ds s x y e .secondIn))
-
   pub nested-signs : nested (getD x s 0) (getD y s 0) ≡ true → candidate ds s x y ≡ false
   unfolding permitted
-  nested-signs n = not-goes (λ e. false≢true (sym (not-true _ (and-left _ _ (candidate-goes ds s x y e .may))) ∙ n))
+  nested-signs n = not-candidate ds s x y (λ e. false≢true (sym (not-true _ (and-left _ _ (candidate-goes ds s x y e .may))) ∙ n))
 
   pub clashing-signs : clashing ds (others s x) (others s y) ≡ true → candidate ds s x y ≡ false
   unfolding permitted
-  clashing-signs n = not-goes
+  clashing-signs n = not-candidate ds s x y
       (λ e. false≢true (sym (not-true _ (and-right (not (nested (getD x s 0) (getD y s 0))) _ (candidate-goes ds s x y e .may))) ∙ n))
 
   pub goes : bucket x ≡ s → bucket y ≡ s → nested (getD x s 0) (getD y s 0) ≡ false → clashing ds (others s x) (others s y) ≡ false → candidate ds s x y ≡ true

@@ -106,17 +106,18 @@ module _ (t : List ℕ) (base count v skip from : ℕ) (fulls : Clause) where
         answered ds f r c =
             ap foundOf (started ds f r c) ∙ rw (signs-read t base count i h x e) (sym (answer ds f r (valid-read t base count i h x e ds r) (sym l ∙ m)))
 
-        pub paired : (j : ℕ) → found ≡ At j → Over (λ ds. Next v i j ≡ huntedOf (pairIn ds v 0 (rowsIn t base count)))
+        pub paired : (j : ℕ) → found ≡ At j → Over (λ ds. Next 0 i j ≡ huntedOf v (pairIn ds v 0 (rowsIn t base count)))
         unfolding huntedOf
         paired j k ds f r c =
-            sym (ap huntedOf
+            let z : 0 ≡ v - v = omega arith in
+            ap (λ p. Next p i j) z ∙ sym (ap (huntedOf v)
             (tried ds f r c .before ∙ pairIn-at ds v (rowsIn t base count) i j (in-rows t base count i h) (at-some (second ds) j (answered ds f r c ∙ k))))
 
         pub alone : found ≡ Missing → Over (λ ds. Tried ds (i + 1) 0)
         alone k = past (λ ds f r c. missing-none (second ds) (answered ds f r c ∙ k))
 
-  pub nothing : (i least : ℕ) → Over (λ ds. Tried ds i least) → count ≤ i → Over (λ ds. Nothing ≡ huntedOf (pairIn ds v 0 (rowsIn t base count)))
+  pub nothing : (i least : ℕ) → Over (λ ds. Tried ds i least) → count ≤ i → Over (λ ds. Nothing ≡ huntedOf v (pairIn ds v 0 (rowsIn t base count)))
   unfolding huntedOf
   nothing i least tried h ds f r c =
       let l : length (rowsIn t base count) ≤ i = omega (arith, length-rowsFrom count (drop base t)) in
-      sym (ap huntedOf (tried ds f r c .before ∙ pairIn-end ds v (rowsIn t base count) i l))
+      sym (ap (huntedOf v) (tried ds f r c .before ∙ pairIn-end ds v (rowsIn t base count) i l))

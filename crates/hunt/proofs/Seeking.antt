@@ -11,6 +11,7 @@ use Rattle.wcsp.specs.Clause.{ValidClause, bucket}
 use Rattle.wcsp.specs.Row.{ValidRows}
 use Rattle.wcsp.specs.Rule.{others, clashing, nested}
 use Rattle.wcsp.specs.Resolve.{candidate, partner}
+use Rattle.wcsp.proofs.NextPair.{other-second}
 use Rattle.clause.specs.declared.Clause.{Clause}
 use Rattle.clause.specs.Packed.{signsOf, FullSigns}
 use Rattle.rows.specs.Raw.{rowWidth, rawAt, clauseIn}
@@ -18,7 +19,7 @@ use Rattle.rows.specs.declared.Found.the-variants.{At, Missing}
 use Rattle.table.proofs.RawRows.{length-rowsFrom}
 use Rattle.hunt.specs.Hunt.{foundOf}
 use Rattle.hunt.proofs.TableRows.{rowsIn, in-rows, signs-read, valid-read}
-use Rattle.hunt.proofs.Hunting.{other-second, nested-signs, clashing-signs, goes, partner-at, partner-past, partner-end}
+use Rattle.hunt.proofs.Hunting.{nested-signs, clashing-signs, goes, partner-at, partner-past, partner-end}
 
 module _ (t : List ℕ) (base count : ℕ) (x : Clause) (v : ℕ) (fulls : Clause) where
   -- P holds of every list of sizes with these full signs over which the rows and x are valid, x being of bucket v

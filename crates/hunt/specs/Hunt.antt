@@ -1,12 +1,12 @@
--- Inner: the answers of a hunt, and what it may rely on: buckets that are settled, and rows that go with none.
-use Prim.Native.Nat.{ℕ, _<_, _≤_}
+-- Inner: the answers of a hunt, and what it may rely on: rows that go with none.
+use Prim.Native.Nat.{ℕ, _-_, _<_, _≤_}
 use mathlib.Core.Path.{_≡_}
 use mathlib.Core.Bool.{false}
 use mathlib.Core.List.{List}
 use mathlib.Core.Option.{Option, none, some}
 use lib.ListN.{length, getD}
 use Rattle.wcsp.specs.Row.{Row}
-use Rattle.wcsp.specs.Resolve.{Pair, noRow, candidate, pairIn}
+use Rattle.wcsp.specs.Resolve.{Pair, noRow, candidate}
 use Rattle.rows.specs.declared.Found.{Found}
 use Rattle.rows.specs.declared.Found.the-variants.{At, Missing}
 use Rattle.hunt.specs.declared.Hunted.{Hunted}
@@ -16,9 +16,10 @@ unfoldable pub foundOf : Option ℕ → Found
 foundOf none = Missing
 foundOf (some k) = At k
 
-unfoldable pub huntedOf : Option Pair → Hunted
-huntedOf none = Nothing
-huntedOf (some pr) = Next (pr .variable) (pr .first) (pr .second)
+-- from bucket v on
+unfoldable pub huntedOf : ℕ → Option Pair → Hunted
+huntedOf v none = Nothing
+huntedOf v (some pr) = Next (pr .variable - v) (pr .first) (pr .second)
 
 -- in bucket s no row below i goes with a later one, and row i with none below c
 abbrev pub Cleared : List ℕ → ℕ → ℕ → ℕ → List Row → Type 0
@@ -26,7 +27,3 @@ Cleared ds s i c rs =
     (i ≤ length rs) × (c ≤ length rs)
     × ((k l : ℕ) → k < i → k < l → l < length rs → candidate ds s (getD rs k noRow .signs) (getD rs l noRow .signs) ≡ false)
     × ((l : ℕ) → i < l → l < c → candidate ds s (getD rs i noRow .signs) (getD rs l noRow .signs) ≡ false)
-
--- no bucket below s has a pair
-abbrev pub Settled : List ℕ → ℕ → List Row → Type 0
-Settled ds s rs = (v : ℕ) → v < s → pairIn ds v 0 rs ≡ none

@@ -1,19 +1,19 @@
 // The hunt for the next pair: bucket by bucket, taken up within a bucket at the first row that can have a partner.
 ghost use mathlib.Core.Path.{_≡_};
 ghost use mathlib.Core.List.{List};
-ghost use Prim.Native.Nat.{ℕ, _+_, _*_, _<_, _≤_};
+ghost use Prim.Native.Nat.{ℕ, _+_, _-_, _*_, _<_, _≤_};
 ghost use lib.ListN.{length, getD, drop};
 ghost use Rattle.wcsp.specs.Clause.{ValidClause, bucket};
 ghost use Rattle.wcsp.specs.Row.{ValidRows};
-ghost use Rattle.wcsp.specs.Resolve.{partner, pairIn, nextPair};
+ghost use Rattle.wcsp.specs.Resolve.{partner, pairIn, pairFrom};
 ghost use Rattle.clause.specs.Packed.{signsOf, FitsBlocks, FullSigns};
 ghost use Rattle.rows.specs.Raw.{rowWidth, rawAt, clauseIn};
 ghost use Rattle.table.specs.Meaning.{rowsFrom};
-ghost use Rattle.hunt.specs.Hunt.{foundOf, huntedOf, Cleared, Settled};
+ghost use Rattle.hunt.specs.Hunt.{foundOf, huntedOf, Cleared};
 use clause::Clause;
 use rows::Found;
 
-// The next pair, a variable and two rows, or none.
+// What a hunt finds from a bucket on: how many buckets it passed over and two rows of the next one, or nothing.
 pub enum Hunted {
     Next(u32, usize, usize),
     Nothing,
@@ -28,20 +28,20 @@ fn sign_at(t: &[u32], base: usize, k: usize, v: u32) -> u32
     (t[at] >> (8 * (v % 3))) % 256
 }
 
-// The first row from `from` on, of bucket v, that may be resolved with x on v. The signs at v tell most rows apart.
+// The first row from `from` on, of bucket v, that may be resolved on v with x, whose sign there is given. The signs at v tell most rows apart.
 fn seek(
     t: &[u32],
     base: usize,
     count: usize,
     x: Clause,
     v: u32,
+    sign: u32,
     from: usize,
     fulls: Clause,
 ) -> Found
-    requires { ⌜ (base + rowWidth * count ≤ length (now t)) × FitsBlocks x × FitsBlocks fulls × (v < 12) ⌝ }
+    requires { ⌜ (base + rowWidth * count ≤ length (now t)) × FitsBlocks x × FitsBlocks fulls × (v < 12) × (sign ≡ getD (signsOf x) v 0) ⌝ }
     ensures { λ r. ⌜ (let rs = rowsFrom count (drop base (now (t .entry))) in (ds : List ℕ) → FullSigns fulls ds → ValidRows ds rs → ValidClause ds (signsOf x) → bucket (signsOf x) ≡ v → r ≡ foundOf (partner ds v (signsOf x) from (drop from rs))) ⌝ }
 {
-    let sign = x.sign(v);
     let mut j = from;
     while j < count {
         if !clause::nest(sign, sign_at(t, base, j, v)) {
@@ -68,21 +68,22 @@ fn pair_in(
     fulls: Clause,
 ) -> Hunted
     requires { ⌜ (base + rowWidth * count ≤ length (now t)) × FitsBlocks fulls × (v < 12) ⌝ }
-    ensures { λ r. ⌜ (let rs = rowsFrom count (drop base (now (t .entry))) in (ds : List ℕ) → FullSigns fulls ds → ValidRows ds rs → Cleared ds v skip from rs → r ≡ huntedOf (pairIn ds v 0 rs)) ⌝ }
+    ensures { λ r. ⌜ (let rs = rowsFrom count (drop base (now (t .entry))) in (ds : List ℕ) → FullSigns fulls ds → ValidRows ds rs → Cleared ds v skip from rs → r ≡ huntedOf v (pairIn ds v 0 rs)) ⌝ }
 {
     let mut i = skip;
     let mut least = from;
     while i < count {
-        if sign_at(t, base, i, v) != 0 {
+        let sign = sign_at(t, base, i, v);
+        if sign != 0 {
             let x = rows::clause_of(t, base, i);
             if x.lowest() == v {
                 let mut next = i + 1;
                 if next < least {
                     next = least;
                 }
-                let found = seek(t, base, count, x, v, next, fulls);
+                let found = seek(t, base, count, x, v, sign, next, fulls);
                 if let Found::At(j) = found {
-                    return Hunted::Next(v, i, j);
+                    return Hunted::Next(0, i, j);
                 }
             }
         }
@@ -92,7 +93,7 @@ fn pair_in(
     Hunted::Nothing
 }
 
-// The next pair, where the buckets below v are settled.
+// The least pair of the lowest bucket from v on that has one, whatever rows of lower buckets there are.
 pub fn hunt(
     t: &[u32],
     base: usize,
@@ -103,15 +104,16 @@ pub fn hunt(
     fulls: Clause,
 ) -> Hunted
     requires { ⌜ (base + rowWidth * count ≤ length (now t)) × FitsBlocks fulls × (v ≤ 12) ⌝ }
-    ensures { λ r. ⌜ (let rs = rowsFrom count (drop base (now (t .entry))) in (ds : List ℕ) → FullSigns fulls ds → ValidRows ds rs → Settled ds v rs → Cleared ds v skip from rs → r ≡ huntedOf (nextPair ds rs)) ⌝ }
+    ensures { λ r. ⌜ (let rs = rowsFrom count (drop base (now (t .entry))) in (ds : List ℕ) → FullSigns fulls ds → ValidRows ds rs → Cleared ds v skip from rs → r ≡ huntedOf v (pairFrom ds (length ds - v) v rs)) ⌝ }
 {
     let mut s = v;
     let mut first = skip;
     let mut second = from;
     while s < 12 {
         let found = pair_in(t, base, count, s, first, second, fulls);
-        if let Hunted::Next(_, _, _) = found {
-            return found;
+        if let Hunted::Next(_, i, j) = found {
+            let passed = s - v;
+            return Hunted::Next(passed, i, j);
         }
         first = 0;
         second = 0;

@@ -12,10 +12,8 @@ use lib.Dec.{ltb}
 use borrow.Author.Tests.{ltb-true, lt-ltb, le-ltb}
 use Rattle.wcsp.specs.Row.{Row, emptyWeight}
 use Rattle.wcsp.specs.Resolve.{Pair, noRow, pairIn, nextPair, resolve}
-use Rattle.wcsp.proofs.NextPair.{nextIsLeast}
-use Rattle.wcsp.proofs.PairSearch.{PairFrom, pairFrom-some}
-use Rattle.wcsp.proofs.PairFound.{pairIn-is, pairIn-is-none}
-use Rattle.wcsp.proofs.Settled.{settled-kept}
+use Rattle.wcsp.specs.Unsettled.{lowestUnsettled}
+use Rattle.wcsp.proofs.Unsettled.{onIt, lowestIs, lowest-none, neverFalls, pair-here}
 use Rattle.wcsp.proofs.Cleared.{first-in, second-in, passed-before, passed-here}
 use Rattle.clause.specs.declared.Clause.{Clause}
 use Rattle.clause.specs.Packed.{FitsBlocks}
@@ -29,19 +27,20 @@ use Rattle.table.proofs.Canonical.{twelveIsCanonical}
 use Rattle.table.proofs.Reading.{ready, find-room}
 use Rattle.hunt.specs.declared.Hunted.{Hunted}
 use Rattle.hunt.specs.declared.Hunted.the-variants.{Next, Nothing}
-use Rattle.hunt.specs.Hunt.{Cleared, Settled}
+use Rattle.hunt.specs.Hunt.{Cleared}
 use Rattle.stepping.specs.Step.{refusing, stepsTo, allowed, pairWord, withRows}
 use Rattle.stepping.proofs.Answers.{Advances}
 use Rattle.stepping.proofs.Following.{following}
 use Rattle.resolution.specs.declared.Outcome.{Outcome}
 use Rattle.resolution.specs.declared.RunAnswer.{RunAnswer}
+use Rattle.resolution.specs.declared.Ending.{Ending}
 use Rattle.resolution.specs.Step.{oneStep}
 use Rattle.resolution.specs.Run.{Ran, after, atLimit, runRows}
 use Rattle.resolution.specs.Calls.{RunReturned, runReturns, runCall}
 use Rattle.resolution.specs.Twelve.{runTwelve, resumed}
 use Rattle.resolution.proofs.Stepped.{no-step, next-step}
 use Rattle.resolution.proofs.Own.{run-own}
-use Rattle.resolution.proofs.Single.{fulls-packed, Hunts, hunt-none, hunt-some, permitted, settled-start, cleared-start}
+use Rattle.resolution.proofs.Single.{fulls-packed, Hunts, lowestIn, hunt-none, hunt-some, permitted, cleared-start}
 
 -- ---- a run's next turn
 
@@ -71,7 +70,7 @@ module _ (ds : List ℕ) (cap k : ℕ) (rs : List Row) (words : List ℕ) where
 
 -- ---- what is kept
 
-pub record Going (t₀ : List ℕ) (most : ℕ) (slice₀ t slice : List ℕ) (count bucket skip from made : ℕ) : Type 0 where
+pub record Going (t₀ : List ℕ) (most : ℕ) (slice₀ t slice : List ℕ) (count lowest skip from made : ℕ) : Type 0 where
   pub words : List ℕ
   pub valid : validTable t ≡ true
   pub long : length t ≡ length t₀
@@ -85,13 +84,12 @@ pub record Going (t₀ : List ℕ) (most : ℕ) (slice₀ t slice : List ℕ) (c
   pub room : most ≤ length slice₀
   pub sliced : slice ≡ words ++ drop made slice₀
   pub asLong : length slice ≡ length slice₀
-  pub known : bucket ≤ 12
-  pub settled : Settled (domains t) bucket (tableRows t)
-  pub cleared : Cleared (domains t) bucket skip from (tableRows t)
+  pub low : lowest ≤ lowestIn t
+  pub cleared : Cleared (domains t) lowest skip from (tableRows t)
 
 pub going-start : (t : List ℕ) (most : ℕ) (slice : List ℕ) (count : ℕ) → validTable t ≡ true → count ≡ rowCount t → most ≤ length slice
-    → Going t most slice t slice count 0 0 0 0
-going-start t most slice count v n h =
+    → (lowest : ℕ) → lowest ≤ lowestIn t → Going t most slice t slice count lowest 0 0 0
+going-start t most slice count v n h lowest l =
     let z : most ≡ most - 0 = omega arith in
     record {
       words = [];
@@ -107,30 +105,11 @@ going-start t most slice count v n h =
       room = h;
       sliced = refl;
       asLong = refl;
-      known = omega arith;
-      settled = settled-start t;
-      cleared = cleared-start t;
+      low = l;
+      cleared = cleared-start t lowest;
     }
 
--- ---- the next pair's place, and where the hunt goes on after a step
-
-module _ (ds : List ℕ) (rs : List Row) (pr : Pair) (next : nextPair ds rs ≡ some pr) where
-  found : PairFrom ds (length ds) 0 rs pr
-  unfolding nextPair
-  found = pairFrom-some ds rs (length ds) 0 pr next
-
-  on : pr .variable ≡ found .step
-  on = omega (arith, found .pairHere .onVariable)
-
-  pub pair-here : pairIn ds (pr .variable) 0 rs ≡ some pr
-  pair-here =
-      let e : 0 + found .step ≡ pr .variable = omega (arith, on) in
-      rw e at (pairIn-is ds (0 + found .step) 0 rs pr (found .pairHere))
-
-  pub none-below : Settled ds (pr .variable) rs
-  none-below u h =
-      let e : 0 + u ≡ u = omega arith in
-      rw e at (pairIn-is-none ds (0 + u) 0 rs (found .earlier u (omega (arith, on))))
+-- ---- where the hunt goes on after a step
 
 -- the two weights compared
 module _ (rs : List Row) (i j : ℕ) {first second : ℕ} (e : first ≡ getD rs i noRow .weight) (f : second ≡ getD rs j noRow .weight) where
@@ -143,9 +122,12 @@ module _ (rs : List Row) (i j : ℕ) {first second : ℕ} (e : first ≡ getD rs
   resumed-anew h = let l : getD rs i noRow .weight ≤ getD rs j noRow .weight = omega arith in rw (le-ltb (getD rs j noRow .weight) (getD rs i noRow .weight) l)
 
 module _ (t : List ℕ) (v : validTable t ≡ true) (pr : Pair) (next : nextPair (domains t) (tableRows t) ≡ some pr) where
-  pub still-settled : Settled (domains t) (pr .variable) (resolve (domains t) pr (tableRows t))
-  still-settled u h =
-      settled-kept (ready t v .valid) (nextIsLeast (domains t) (tableRows t) pr .0 next .is) u h (none-below (domains t) (tableRows t) pr next u h)
+  -- the step is on the lowest unsettled variable, and that does not fall
+  pub on-lowest : pr .variable ≡ lowestIn t
+  on-lowest = onIt (domains t) (tableRows t) pr next
+
+  pub still-low : pr .variable ≤ lowestUnsettled (domains t) (resolve (domains t) pr (tableRows t))
+  still-low = omega (arith, on-lowest, neverFalls (domains t) (tableRows t) pr (ready t v .valid) next)
 
   pub still-cleared : (from : ℕ) → from ≡ resumed (tableRows t) (pr .first) (pr .second)
       → Cleared (domains t) (pr .variable) (pr .first) from (resolve (domains t) pr (tableRows t))
@@ -187,8 +169,8 @@ word-put words slice₀ made w e h =
 
 -- ---- a turn
 
-module _ {t₀ : List ℕ} {most : ℕ} {slice₀ t slice : List ℕ} {count bucket skip from made : ℕ}
-    (g : Going t₀ most slice₀ t slice count bucket skip from made) where
+module _ {t₀ : List ℕ} {most : ℕ} {slice₀ t slice : List ℕ} {count lowest skip from made : ℕ}
+    (g : Going t₀ most slice₀ t slice count lowest skip from made) where
   -- the whole run, told from here
   abbrev whole : Ran
   whole = runRows (domains t₀) (capacityOf t₀) most (tableRows t₀) []
@@ -198,17 +180,22 @@ module _ {t₀ : List ℕ} {most : ℕ} {slice₀ t slice : List ℕ} {count buc
       twelveIsCanonical t (g .valid) .words ∙ ap₂ (λ n s. tableWords n s (tableRows t)) (g .long) (g .sizes)
 
   -- what the run must give back
-  abbrev pub Gives : RunAnswer → List ℕ → List ℕ → Type 0
-  Gives r t′ slice′ = _≡_ {A = RunReturned} (record { answer = r; table = t′; slice = slice′ }) (runReturns 12 t₀ slice₀ whole)
+  abbrev pub Gives : Ending → List ℕ → List ℕ → Type 0
+  Gives r t′ slice′ =
+      _≡_ {A = RunReturned} (record { answer = r .answer; table = t′; slice = slice′ }) (runReturns 12 t₀ slice₀ whole) × (r .lowest ≡ lowestIn t′)
 
-  gives : (e : Outcome) (r : RunAnswer) (t′ : List ℕ) → whole ≡ record { outcome = e; rows = tableRows t; made = g .words }
-      → r ≡ record { outcome = e; steps = made; bound = emptyWeight 12 (tableRows t) } → t′ ≡ t → Gives r t′ slice
-  gives e r t′ w a b =
+  -- a run that ends so in this table, with this value of its lowest unsettled variable
+  abbrev pub ending : Outcome → ℕ → List ℕ → Ending
+  ending e u t′ = record { answer = record { outcome = e; steps = made; bound = emptyWeight 12 (tableRows t′) }; lowest = u }
+
+  gives : (e : Outcome) (r : Ending) (t′ : List ℕ) → whole ≡ record { outcome = e; rows = tableRows t; made = g .words }
+      → (u : ℕ) → r ≡ ending e u t → t′ ≡ t → u ≡ lowestIn t → Gives r t′ slice
+  gives e r t′ w u a b l =
       let s = g .steps in
       let c : t′ ≡ withRows t₀ (tableRows t) = b ∙ going-canonical in
       let d : slice ≡ g .words ++ drop (length (g .words)) slice₀ = rw s (g .sliced) in
-      let f : r ≡ record { outcome = e; steps = length (g .words); bound = emptyWeight 12 (tableRows t) } = rw s a in
-      rw w (λ i. record { answer = f i; table = c i; slice = d i })
+      let f : r .answer ≡ record { outcome = e; steps = length (g .words); bound = emptyWeight 12 (tableRows t) } = rw s (ap (λ x. x .answer) a) in
+      (rw w (λ i. record { answer = f i; table = c i; slice = d i }), ap (λ x. x .lowest) a ∙ l ∙ ap lowestIn (sym b))
 
   -- what the calls of a turn ask for, with the front and the full signs of the first table
   module _ {base : ℕ} (b : base ≡ variablesOf t₀ + 2) {fulls : Clause} (f : fulls ≡ fullClause (domains t₀)) where
@@ -218,11 +205,11 @@ module _ {t₀ : List ℕ} {most : ℕ} {slice₀ t slice : List ℕ} {count buc
     fulls-here : fulls ≡ fullClause (domains t)
     fulls-here = f ∙ ap fullClause (sym (g .domained))
 
-    pub hunt-asks : (base + rowWidth * count ≤ length t) × FitsBlocks fulls × (bucket ≤ 12)
+    pub hunt-asks : (base + rowWidth * count ≤ length t) × FitsBlocks fulls × (lowest ≤ 12)
     hunt-asks = (
       find-room t (g .valid) base count base-here (g .counted),
       fulls-packed t (g .valid) base count base-here (g .counted) fulls fulls-here,
-      g .known,
+      omega (arith, lowestIs (domains t) (tableRows t) lowest .0 (g .low) .0, ready t (g .valid) .twelve),
     )
 
     pub ended-asks : (validTable t ≡ true) × (base ≡ variablesOf t + 2) × (count ≡ rowCount t)
@@ -239,37 +226,44 @@ module _ {t₀ : List ℕ} {most : ℕ} {slice₀ t slice : List ℕ} {count buc
         let u = fulls-here in
         λ i. record { variables = n i; count = k i; fulls = u i }
 
-    module _ {found : Hunted} (answer : Hunts t base count fulls bucket skip from found) where
+    -- a hunt that starts at the value of the lowest unsettled variable
+    module _ {found : Hunted} {start : ℕ} (answer : Hunts t base count fulls start skip from found) (here : start ≡ lowest) where
+      hunts-here : Hunts t base count fulls lowest skip from found
+      hunts-here = rw here at answer
+
       pub none-left : found ≡ Nothing → nextPair (domains t) (tableRows t) ≡ none
-      none-left = hunt-none t (g .valid) base count base-here (g .counted) fulls fulls-here bucket skip from (g .settled) (g .cleared) found answer
+      none-left = hunt-none t (g .valid) base count base-here (g .counted) fulls fulls-here lowest skip from (g .low) (g .cleared) found hunts-here
 
-      pub one-next : {v i j : ℕ} → found ≡ Next v i j → nextPair (domains t) (tableRows t) ≡ some (record { variable = v; first = i; second = j })
-      one-next {v} {i} {j} =
-          hunt-some t (g .valid) base count base-here (g .counted) fulls fulls-here bucket skip from (g .settled) (g .cleared) found answer v i j
+      -- the value moves on by what the hunt passed over
+      pub one-next : {passed i j : ℕ} → found ≡ Next passed i j → (v : ℕ) → v ≡ lowest + passed
+          → nextPair (domains t) (tableRows t) ≡ some (record { variable = v; first = i; second = j })
+      one-next {passed} {i} {j} q v e =
+          rw e (hunt-some t (g .valid) base count base-here (g .counted) fulls fulls-here lowest skip from (g .low) (g .cleared) found hunts-here passed i j q)
 
-  pub gives-done : nextPair (domains t) (tableRows t) ≡ none → (r : RunAnswer)
-      → r ≡ record { outcome = Outcome.Done; steps = made; bound = emptyWeight 12 (tableRows t) } → Gives r t slice
-  gives-done e r a = gives Outcome.Done r t (g .goes ∙ run-done (domains t) (capacityOf t) (most - made) (tableRows t) (g .words) e) a refl
+  pub gives-done : nextPair (domains t) (tableRows t) ≡ none → (r : Ending) → r ≡ ending Outcome.Done 12 t → Gives r t slice
+  gives-done e r a =
+      gives Outcome.Done r t (g .goes ∙ run-done (domains t) (capacityOf t) (most - made) (tableRows t) (g .words) e) 12 a refl
+      (omega (arith, lowest-none (domains t) (tableRows t) e, ready t (g .valid) .twelve))
 
   module _ (pr : Pair) (next : nextPair (domains t) (tableRows t) ≡ some pr) where
-    pub gives-paused : made ≡ most → (r : RunAnswer)
-        → r ≡ record { outcome = Outcome.Paused; steps = made; bound = emptyWeight 12 (tableRows t) } → Gives r t slice
+    pub gives-paused : made ≡ most → (r : Ending) → r ≡ ending Outcome.Paused (pr .variable) t → Gives r t slice
     gives-paused h r a =
         let z : most - made ≡ 0 = omega arith in
-        gives Outcome.Paused r t (g .goes ∙ run-paused (domains t) (capacityOf t) (most - made) (tableRows t) (g .words) pr next z) a refl
+        gives Outcome.Paused r t (g .goes ∙ run-paused (domains t) (capacityOf t) (most - made) (tableRows t) (g .words) pr next z)
+        (pr .variable) a refl (on-lowest t (g .valid) pr next)
 
     module _ (h : made < most) where
       one-left : most - made ≡ suc (most - (made + 1))
       one-left = omega (arith, h)
 
       pub gives-refused : (k : ℕ) (t′ : List ℕ)
-          → (allowed (capacityOf t) pr (resolve (domains t) pr (tableRows t)) ≡ refusing k) × (t′ ≡ t) → (r : RunAnswer) (number : ℕ) → number ≡ k
-          → r ≡ record { outcome = Outcome.Refused number; steps = made; bound = emptyWeight 12 (tableRows t′) } → Gives r t′ slice
+          → (allowed (capacityOf t) pr (resolve (domains t) pr (tableRows t)) ≡ refusing k) × (t′ ≡ t) → (r : Ending) (number : ℕ) → number ≡ k
+          → r ≡ ending (Outcome.Refused number) (pr .variable) t′ → Gives r t′ slice
       gives-refused k t′ (a, b) r number q p =
           gives (Outcome.Refused k) r t′
           (g .goes ∙ run-stopped (domains t) (capacityOf t) (most - made) (tableRows t) (g .words) (most - (made + 1)) one-left k
           (next-step (domains t) (capacityOf t) (tableRows t) pr next ∙ ap some a))
-          (p ∙ ap₂ (λ m u. record { outcome = Outcome.Refused m; steps = made; bound = emptyWeight 12 (tableRows u) }) q b) b
+          (pr .variable) (p ∙ ap₂ (λ m u. ending (Outcome.Refused m) (pr .variable) u) q b) b (on-lowest t (g .valid) pr next)
 
       pub going-on : (now : ℕ) (t′ : List ℕ) → Advances t pr now t′ → (w : ℕ) → w ≡ pairWord pr
           → (from′ : ℕ) → from′ ≡ resumed (tableRows t) (pr .first) (pr .second)
@@ -300,8 +294,7 @@ module _ {t₀ : List ℕ} {most : ℕ} {slice₀ t slice : List ℕ} {count buc
             room = g .room;
             sliced = rw (sliced, one) (word-put (g .words) slice₀ made w (g .steps) fits);
             asLong = length-set slice made w ∙ g .asLong;
-            known = omega (arith, permitted t (g .valid) pr next .known, ready t (g .valid) .twelve);
-            settled = rw (d, rows) (still-settled t (g .valid) pr next);
+            low = rw (d, rows) (still-low t (g .valid) pr next);
             cleared = rw (d, rows) (still-cleared t (g .valid) pr next from′ z);
           }
 

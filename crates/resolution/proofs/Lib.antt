@@ -4,6 +4,7 @@ pub mod Stepped
 pub mod Own
 pub mod Single
 pub mod Going
+pub mod Climbing
 pub mod Keeping
 pub mod Order
 pub mod Witness

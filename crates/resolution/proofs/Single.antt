@@ -1,14 +1,16 @@
 -- A single step on a valid table: what the hunt answers, and what the step leaves, is the step call's definition.
-use Prim.Native.Nat.{ℕ, _+_, _*_, _<_, _≤_}
+use Prim.Native.Nat.{ℕ, _+_, _-_, _*_, _<_, _≤_}
 use native.Mathlib.Omega.{arith}
-use mathlib.Core.Path.{_≡_, sym, ap, ap₂, _∙_}
+use mathlib.Core.Path.{_≡_, refl, sym, ap, ap₂, _∙_}
 use mathlib.Core.Bool.{true, false}
 use mathlib.Core.List.{List}
 use mathlib.Core.Option.{Option, none, some}
 use lib.ListN.{length, drop}
 use Rattle.wcsp.specs.Row.{ValidRows}
-use Rattle.wcsp.specs.Resolve.{Pair, nextPair, resolve, MayResolve}
+use Rattle.wcsp.specs.Resolve.{Pair, pairFrom, nextPair, resolve, MayResolve}
+use Rattle.wcsp.specs.Unsettled.{lowestUnsettled}
 use Rattle.wcsp.proofs.NextPair.{next-permitted}
+use Rattle.wcsp.proofs.Unsettled.{onIt, huntFrom}
 use Rattle.clause.specs.declared.Clause.{Clause}
 use Rattle.clause.specs.Packed.{FitsBlocks, FullSigns}
 use Rattle.rows.specs.Raw.{rowWidth}
@@ -22,7 +24,7 @@ use Rattle.table.proofs.Reading.{ready, ready-shape, find-room}
 use Rattle.hunt.specs.declared.Hunted.{Hunted}
 use Rattle.hunt.specs.declared.Hunted.the-variants.{Next, Nothing}
 use Rattle.hunt.proofs.Climbing.{nothing-none}
-use Rattle.hunt.specs.Hunt.{huntedOf, Cleared, Settled}
+use Rattle.hunt.specs.Hunt.{huntedOf, Cleared}
 use Rattle.stepping.specs.declared.Advanced.{Advanced}
 use Rattle.stepping.specs.declared.Advanced.the-variants.{Made, Refused}
 use Rattle.stepping.specs.Step.{Stepping, refusing, stepsTo, pairWord}
@@ -36,28 +38,38 @@ use Rattle.resolution.proofs.Own.{step-own}
 
 -- ---- the hunt
 
-next-some : (o : Option Pair) (a b c : ℕ) → huntedOf o ≡ Next a b c → o ≡ some (record { variable = a; first = b; second = c })
+-- the pair of a hunt from s on that found one: as many variables further as it passed over
+next-some : (s : ℕ) (o : Option Pair) (a b c : ℕ) → huntedOf s o ≡ Next a b c → ((pr : Pair) → o ≡ some pr → s ≤ pr .variable)
+    → o ≡ some (record { variable = s + a; first = b; second = c })
 unfolding huntedOf
-next-some none a b c e = cc
-next-some (some pr) a b c e = ap some (λ i. record { variable = fst (e i); first = snd (e i); second = trd (e i) })
+next-some s none a b c e h = cc
+next-some s (some pr) a b c e h =
+    let p = ap passedIn e in
+    let l = h pr refl in
+    let v : pr .variable ≡ s + a = omega (arith, p, l) in
+    ap some (λ i. record { variable = v i; first = firstIn (e i); second = secondIn (e i) })
   where
-    fst : Hunted → ℕ
-    fst (Next x y z) = x
-    fst Nothing = 0
+    passedIn : Hunted → ℕ
+    passedIn (Next x y z) = x
+    passedIn Nothing = 0
 
-    snd : Hunted → ℕ
-    snd (Next x y z) = y
-    snd Nothing = 0
+    firstIn : Hunted → ℕ
+    firstIn (Next x y z) = y
+    firstIn Nothing = 0
 
-    trd : Hunted → ℕ
-    trd (Next x y z) = z
-    trd Nothing = 0
+    secondIn : Hunted → ℕ
+    secondIn (Next x y z) = z
+    secondIn Nothing = 0
 
--- what a hunt from bucket s answers of the rows in a table
+-- what a hunt from bucket s on answers of the rows in a table
 abbrev pub Hunts : List ℕ → ℕ → ℕ → Clause → ℕ → ℕ → ℕ → Hunted → Type 0
 Hunts t base count fulls s skip from found =
-    (ds : List ℕ) → FullSigns fulls ds → ValidRows ds (rowsFrom count (drop base t)) → Settled ds s (rowsFrom count (drop base t))
-    → Cleared ds s skip from (rowsFrom count (drop base t)) → found ≡ huntedOf (nextPair ds (rowsFrom count (drop base t)))
+    (ds : List ℕ) → FullSigns fulls ds → ValidRows ds (rowsFrom count (drop base t)) → Cleared ds s skip from (rowsFrom count (drop base t))
+    → found ≡ huntedOf s (pairFrom ds (length ds - s) s (rowsFrom count (drop base t)))
+
+-- the lowest unsettled variable of a table's rows, of twelve signs
+abbrev pub lowestIn : List ℕ → ℕ
+lowestIn t = lowestUnsettled (domains t) (tableRows t)
 
 module _ (t : List ℕ) (v : validTable t ≡ true) (base count : ℕ) (b : base ≡ variablesOf t + 2) (n : count ≡ rowCount t) (fulls : Clause)
     (f : fulls ≡ fullClause (domains t)) where
@@ -68,27 +80,25 @@ module _ (t : List ℕ) (v : validTable t ≡ true) (base count : ℕ) (b : base
   unfolding tableRowsIn
   rows-read = ap₂ (λ m k. rowsFrom m (drop k t)) n b
 
-  module _ (s skip from : ℕ) (settled : Settled (domains t) s (tableRows t)) (cleared : Cleared (domains t) s skip from (tableRows t)) (found : Hunted)
+  module _ (s skip from : ℕ) (low : s ≤ lowestIn t) (cleared : Cleared (domains t) s skip from (tableRows t)) (found : Hunted)
       (answer : Hunts t base count fulls s skip from found) where
-    hunted : found ≡ huntedOf (nextPair (domains t) (tableRows t))
+    hunted : found ≡ huntedOf s (nextPair (domains t) (tableRows t))
     hunted =
         let r = ready t v in
         let signs : FullSigns fulls (domains t) = rw f (r .fulls) in
         let a = rw rows-read at (answer (domains t) signs) in
-        a (r .valid) settled cleared
+        a (r .valid) cleared ∙ ap (huntedOf s) (huntFrom (domains t) (tableRows t) (tableRows t) s low refl)
 
     pub hunt-none : found ≡ Nothing → nextPair (domains t) (tableRows t) ≡ none
-    hunt-none q = nothing-none (nextPair (domains t) (tableRows t)) (sym hunted ∙ q)
+    hunt-none q = nothing-none s (nextPair (domains t) (tableRows t)) (sym hunted ∙ q)
 
-    pub hunt-some : (a i j : ℕ) → found ≡ Next a i j → nextPair (domains t) (tableRows t) ≡ some (record { variable = a; first = i; second = j })
-    hunt-some a i j q = next-some (nextPair (domains t) (tableRows t)) a i j (sym hunted ∙ q)
+    pub hunt-some : (a i j : ℕ) → found ≡ Next a i j → nextPair (domains t) (tableRows t) ≡ some (record { variable = s + a; first = i; second = j })
+    hunt-some a i j q = next-some s (nextPair (domains t) (tableRows t)) a i j (sym hunted ∙ q)
+        (λ pr e. omega (arith, low, onIt (domains t) (tableRows t) pr e))
 
--- before the first step nothing is settled and no row is passed
-pub settled-start : (t : List ℕ) → Settled (domains t) 0 (tableRows t)
-settled-start t u h = absurd (omega arith)
-
-pub cleared-start : (t : List ℕ) → Cleared (domains t) 0 0 0 (tableRows t)
-cleared-start t = (omega arith, omega arith, λ k l h m n. absurd (omega arith), λ l m n. absurd (omega arith))
+-- before the first step no row is passed
+pub cleared-start : (t : List ℕ) (s : ℕ) → Cleared (domains t) s 0 0 (tableRows t)
+cleared-start t s = (omega arith, omega arith, λ k l h m n. absurd (omega arith), λ l m n. absurd (omega arith))
 
 -- the first hunt in a table, with the shape that the test gave
 module _ (t : List ℕ) (v : validTable t ≡ true) (shape : Shape) (e : shape ≡ shapeOf t) where
@@ -115,12 +125,13 @@ module _ (t : List ℕ) (v : validTable t ≡ true) (shape : Shape) (e : shape �
     pub first-none : found ≡ Nothing → nextPair (domains t) (tableRows t) ≡ none
     first-none =
         hunt-none t v (shape .variables + 2) (shape .count) shape-front shape-count (shape .fulls) shape-fulls 0 0 0
-        (settled-start t) (cleared-start t) found answer
+        (omega arith) (cleared-start t 0) found answer
 
     pub first-some : (a i j : ℕ) → found ≡ Next a i j → nextPair (domains t) (tableRows t) ≡ some (record { variable = a; first = i; second = j })
-    first-some =
-        hunt-some t v (shape .variables + 2) (shape .count) shape-front shape-count (shape .fulls) shape-fulls 0 0 0
-        (settled-start t) (cleared-start t) found answer
+    first-some a i j q =
+        let z : 0 + a ≡ a = omega arith in
+        rw z at (hunt-some t v (shape .variables + 2) (shape .count) shape-front shape-count (shape .fulls) shape-fulls 0 0 0
+        (omega arith) (cleared-start t 0) found answer a i j q)
 
 -- ---- the step on a pair
 

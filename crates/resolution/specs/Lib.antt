@@ -6,4 +6,5 @@ pub mod Twelve
 pub mod Numbers
 pub mod Theorems
 pub mod Order
+pub mod Climbing
 pub mod Witness

@@ -4,8 +4,9 @@ ghost use mathlib.Core.Bool.{true};
 ghost use Prim.Native.Nat.{ℕ, _+_, _<_, _≤_};
 ghost use lib.ListN.{length};
 ghost use Rattle.wcsp.specs.Row.{emptyWeight};
+ghost use Rattle.wcsp.specs.Unsettled.{lowestUnsettled};
 ghost use Rattle.fields.specs.Limits.{maxVariables};
-ghost use Rattle.table.specs.Meaning.{variablesOf, rowCount, tableRows};
+ghost use Rattle.table.specs.Meaning.{variablesOf, rowCount, tableRows, domains};
 ghost use Rattle.table.specs.Valid.{validTable};
 ghost use Rattle.table.specs.Check.{shapeOf};
 ghost use Rattle.stepping.specs.declared.Advanced.{Advanced};
@@ -37,7 +38,13 @@ pub struct RunAnswer {
     pub bound: u64,
 }
 
-// One step call: 9; done; 11; 12; else one step.
+// What a run on a valid table comes to: its answer, and the last value of its lowest unsettled variable, 12 where no pair is left.
+struct Ending {
+    answer: RunAnswer,
+    lowest: u32,
+}
+
+// One step call: 9; done; 11; 12; else one step. The buckets that the hunt passes over number up to the pair's variable.
 pub fn step(t: &mut [u32]) -> StepAnswer
     ensures returned { λ r. ⌜ record { answer = r; table = now (t .exit) } ≡ stepCall (now (t .entry)) ⌝ }
 {
@@ -68,15 +75,25 @@ fn refusal_in(advanced: Advanced) -> u32
     }
 }
 
-// The answer of a run that ends so in this table.
-fn ended(t: &[u32], base: usize, count: usize, outcome: Outcome, steps: usize) -> RunAnswer
+// What a run that ends so in this table comes to.
+fn ended(
+    t: &[u32],
+    base: usize,
+    count: usize,
+    outcome: Outcome,
+    steps: usize,
+    lowest: u32,
+) -> Ending
     requires { ⌜ (validTable (now t) ≡ true) × (base ≡ variablesOf (now t) + 2) × (count ≡ rowCount (now t)) ⌝ }
-    ensures { λ r. ⌜ r ≡ record { outcome = outcome; steps = steps; bound = emptyWeight maxVariables (tableRows (now (t .entry))) } ⌝ }
+    ensures { λ r. ⌜ r ≡ record { answer = record { outcome = outcome; steps = steps; bound = emptyWeight maxVariables (tableRows (now (t .entry))) }; lowest = lowest } ⌝ }
 {
-    RunAnswer {
-        outcome,
-        steps,
-        bound: table::empty_weight(t, base, count),
+    Ending {
+        answer: RunAnswer {
+            outcome,
+            steps,
+            bound: table::empty_weight(t, base, count),
+        },
+        lowest,
     }
 }
 
@@ -90,26 +107,27 @@ fn resume(t: &[u32], base: usize, i: usize, j: usize) -> usize
     if second < first { j } else { 0 }
 }
 
-// Up to `most` steps on a valid table. The hunt goes on at the bucket and the first row of the last step.
-fn run_valid(t: &mut [u32], shape: Shape, most: usize, slice: &mut [u32]) -> RunAnswer
+// Up to `most` steps on a valid table. The hunt goes on at the lowest unsettled variable, and there at the first row of the last step.
+fn run_valid(t: &mut [u32], shape: Shape, most: usize, slice: &mut [u32]) -> Ending
     requires { ⌜ (validTable (now t) ≡ true) × (shape ≡ shapeOf (now t)) × (most ≤ length (now slice)) ⌝ }
-    ensures { λ r. ⌜ record { answer = r; table = now (t .exit); slice = now (slice .exit) } ≡ runTwelve (now (t .entry)) most (now (slice .entry)) ⌝ }
+    ensures { λ r. ⌜ (record { answer = r .answer; table = now (t .exit); slice = now (slice .exit) } ≡ runTwelve (now (t .entry)) most (now (slice .entry))) × (r .lowest ≡ lowestUnsettled (domains (now (t .exit))) (tableRows (now (t .exit)))) ⌝ }
 {
     let n = shape.variables;
     let fulls = shape.fulls;
     let base = n + 2;
     let mut count = shape.count;
-    let mut bucket = 0;
+    let mut lowest = 0;
     let mut skip = 0;
     let mut from = 0;
     let mut made = 0;
     loop {
-        let found = hunt::hunt(t, base, count, bucket, skip, from, fulls);
-        let Hunted::Next(v, i, j) = found else {
-            return ended(t, base, count, Outcome::Done, made);
+        let found = hunt::hunt(t, base, count, lowest, skip, from, fulls);
+        let Hunted::Next(passed, i, j) = found else {
+            return ended(t, base, count, Outcome::Done, made, 12);
         };
+        lowest += passed;
         if made == most {
-            return ended(t, base, count, Outcome::Paused, made);
+            return ended(t, base, count, Outcome::Paused, made, lowest);
         }
         let here = Shape {
             variables: n,
@@ -117,14 +135,14 @@ fn run_valid(t: &mut [u32], shape: Shape, most: usize, slice: &mut [u32]) -> Run
             fulls,
         };
         let next = resume(t, base, i, j);
-        let advanced = stepping::advance(t, here, v, i, j);
+        let advanced = stepping::advance(t, here, lowest, i, j);
         let Advanced::Made(now) = advanced else {
-            return ended(t, base, count, Outcome::Refused(refusal_in(advanced)), made);
+            let outcome = Outcome::Refused(refusal_in(advanced));
+            return ended(t, base, count, outcome, made, lowest);
         };
-        slice[made] = words::step(v, i as u32, j as u32);
+        slice[made] = words::step(lowest, i as u32, j as u32);
         made += 1;
         count = now;
-        bucket = v;
         skip = i;
         from = next;
     }
@@ -143,5 +161,5 @@ pub fn run(t: &mut [u32], limit: usize, slice: &mut [u32]) -> RunAnswer
         };
     };
     let most = fields::lesser(limit as u64, slice.len() as u64) as usize;
-    run_valid(t, shape, most, slice)
+    run_valid(t, shape, most, slice).answer
 }

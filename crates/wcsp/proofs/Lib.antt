@@ -26,6 +26,7 @@ pub mod Raising
 pub mod AsWritten
 pub mod TooHeavy
 pub mod Settled
+pub mod Unsettled
 pub mod Passed
 pub mod Cleared
 pub mod WideningClauses

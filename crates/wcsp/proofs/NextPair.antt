@@ -6,7 +6,7 @@ use native.Mathlib.Omega.{arith}
 use native.Mathlib.Decide.{decLt}
 use mathlib.Core.Path.{_≡_, refl, ap, _∙_}
 use mathlib.Core.Logic.{_⊎_, inl, inr}
-use mathlib.Core.Bool.{true, _&&_}
+use mathlib.Core.Bool.{Bool, true, false, _&&_}
 use mathlib.Core.List.{List}
 use mathlib.Core.Option.{Option, none, some}
 use lib.ListN.{length}
@@ -40,6 +40,19 @@ module _ (ds : List ℕ) (s : ℕ) (x y : List ℕ) where
   pub goes-candidate : Goes ds s x y → candidate ds s x y ≡ true
   unfolding candidate
   goes-candidate g = rw (eq-eqb (bucket x) s (g .firstIn), eq-eqb (bucket y) s (g .secondIn), g .may)
+
+  pub not-candidate : (candidate ds s x y ≡ true → ⊥) → candidate ds s x y ≡ false
+  not-candidate n = go (candidate ds s x y) refl
+    where
+      go : (b : Bool) → candidate ds s x y ≡ b → b ≡ false
+      go true e = absurd (n e)
+      go false e = refl
+
+  pub other-first : (bucket x ≡ s → ⊥) → candidate ds s x y ≡ false
+  other-first n = not-candidate (λ e. n (candidate-goes e .firstIn))
+
+  pub other-second : (bucket y ≡ s → ⊥) → candidate ds s x y ≡ false
+  other-second n = not-candidate (λ e. n (candidate-goes e .secondIn))
 
 -- the order of pairs tells two pairs apart
 antisym : (a b : Pair) → NotAfter a b → NotAfter b a → a ≡ b

@@ -5,7 +5,7 @@ use native.Mathlib.Omega.{arith}
 use mathlib.Core.Path.{_≡_, refl, ap, _∙_}
 use mathlib.Core.Bool.{Bool, true, false, cond}
 use mathlib.Core.List.{List, [], _∷_, _++_}
-use mathlib.Core.Option.{none, some}
+use mathlib.Core.Option.{none}
 use lib.ListN.{length, set}
 use lib.Bits.{bitOr}
 use lib.Dec.{eqb}
@@ -13,13 +13,13 @@ use Rattle.wcsp.specs.Sign.{present}
 use Rattle.wcsp.specs.Clause.{bucket}
 use Rattle.wcsp.specs.Row.{Row, ValidRows}
 use Rattle.wcsp.specs.Rule.{joined, excluding, conclusions}
-use Rattle.wcsp.specs.Resolve.{Pair, candidate, pairIn, pairFrom, nextPair, lessen, movedWeight, conclusionsOf, resolve}
+use Rattle.wcsp.specs.Resolve.{Pair, candidate, pairIn, lessen, movedWeight, conclusionsOf, resolve}
 use Rattle.wcsp.specs.Theorems.{CandidatePair}
 use Rattle.wcsp.proofs.Buckets.{bucket-absent, bucket-above}
 use Rattle.wcsp.proofs.Validity.{Each, nilEach, consEach, each-append, each-map}
-use Rattle.wcsp.proofs.PairSearch.{signsAt, NoPairIn, pairIn-none, pairFrom-here, pairFrom-later}
+use Rattle.wcsp.proofs.PairSearch.{signsAt, NoPairIn, pairIn-none}
 use Rattle.wcsp.proofs.PairFound.{pairIn-is-none}
-use Rattle.wcsp.proofs.NextPair.{candidate-goes}
+use Rattle.wcsp.proofs.NextPair.{other-second}
 use Rattle.wcsp.proofs.Adding.{hasRow, rowOf, raised, fresh, kept-each}
 use Rattle.wcsp.proofs.AsWritten.{keptOf, lessened, resolve-as-written}
 
@@ -93,14 +93,6 @@ module _ (ds : List ℕ) (s : ℕ) where
   quiet-raised u cs nilQuiet = nilQuiet
   quiet-raised u cs (consQuiet {r = r} a q) = consQuiet (alone-raised (r .signs) u cs a) (quiet-raised u cs q)
 
-  -- a clause of another bucket goes with none
-  other-bucket : (x c : List ℕ) → (bucket c ≡ s → ⊥) → candidate ds s x c ≡ false
-  other-bucket x c n = go (candidate ds s x c) refl
-    where
-      go : (b : Bool) → candidate ds s x c ≡ b → b ≡ false
-      go true e = absurd (n (candidate-goes ds s x c e .secondIn))
-      go false e = refl
-
   pub alone-fresh : (x : List ℕ) (u : ℕ) {cs : List (List ℕ)} (rs : List Row) → Each (λ c. candidate ds s x c ≡ false) cs → Alone ds s x (fresh u cs rs)
   unfolding fresh
   alone-fresh x u rs nilEach = nilAlone
@@ -117,7 +109,7 @@ module _ (ds : List ℕ) (s : ℕ) where
     where
       go : (b : Bool) → Quiet ds s (fresh u cs rs) → Quiet ds s (cond b (fresh u cs rs) (rowOf c u ∷ fresh u cs rs))
       go true q = q
-      go false q = consQuiet (alone-fresh c u rs (each-weaken (other-bucket c) ns)) q
+      go false q = consQuiet (alone-fresh c u rs (each-weaken (other-second ds s c) ns)) q
 
   pub alone-append : (x : List ℕ) {rs ts : List Row} → Alone ds s x rs → Alone ds s x ts → Alone ds s x (rs ++ ts)
   alone-append x nilAlone b = b
@@ -187,29 +179,4 @@ settled-kept {ds} {rs} {pr} v c t h e = pairIn-is-none ds t 0 (resolve ds pr rs)
     after = quiet-append ds t
         (quiet-lessen ds t u (pr .first) (quiet-lessen ds t u (pr .second) (quiet-raised ds t u (keptOf ds pr rs) (quiet ds t rs (pairIn-none ds t 0 rs e)))))
         (quiet-fresh ds t u rs others)
-        (λ x. alone-fresh ds t x u rs (each-weaken (other-bucket ds t x) others))
-
--- ---- from the settled variables to the next pair
-
-pub settled-next : (ds : List ℕ) (rs : List Row) (s : ℕ) → s ≤ length ds → ((t : ℕ) → t < s → pairIn ds t 0 rs ≡ none)
-    → nextPair ds rs ≡ pairFrom ds (length ds - s) s rs
-unfolding nextPair
-settled-next ds rs zero h f = let e : length ds ≡ length ds - 0 = omega arith in ap (λ n. pairFrom ds n 0 rs) e
-settled-next ds rs (suc s) h f =
-    let e : length ds - s ≡ suc (length ds - suc s) = omega arith in
-    settled-next ds rs s (omega arith) (λ t l. f t (omega arith)) ∙ ap (λ n. pairFrom ds n s rs) e
-    ∙ pairFrom-later ds rs (length ds - suc s) s (f s (omega arith))
-
--- the first variable that is not settled has the next pair
-pub settled-found : (ds : List ℕ) (rs : List Row) (s : ℕ) (pr : Pair) → s < length ds → ((t : ℕ) → t < s → pairIn ds t 0 rs ≡ none)
-    → pairIn ds s 0 rs ≡ some pr → nextPair ds rs ≡ some pr
-settled-found ds rs s pr h f e =
-    let n : length ds - s ≡ suc (length ds - suc s) = omega arith in
-    settled-next ds rs s (omega arith) f ∙ ap (λ n. pairFrom ds n s rs) n ∙ pairFrom-here ds rs (length ds - suc s) s pr e
-
--- with every variable settled no pair is left
-pub settled-all : (ds : List ℕ) (rs : List Row) → ((t : ℕ) → t < length ds → pairIn ds t 0 rs ≡ none) → nextPair ds rs ≡ none
-unfolding pairFrom
-settled-all ds rs f =
-    let n : length ds - length ds ≡ 0 = omega arith in
-    settled-next ds rs (length ds) (omega arith) f ∙ ap (λ n. pairFrom ds n (length ds) rs) n
+        (λ x. alone-fresh ds t x u rs (each-weaken (other-second ds t x) others))

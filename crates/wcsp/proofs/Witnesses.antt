@@ -9,7 +9,8 @@ use Rattle.wcsp.specs.Sign.{has, full, complement, within, present, lowe
 use Rattle.wcsp.specs.Clause.{falsifies, same, bucket}
 use Rattle.wcsp.specs.Row.{_weighted_, falsified, merge}
 use Rattle.wcsp.specs.Rule.{conclusions, permitted}
-use Rattle.wcsp.specs.Resolve.{Pair, nextPair, lessen, movedWeight}
+use Rattle.wcsp.specs.Resolve.{Pair, noRow, nextPair, lessen, movedWeight}
+use Rattle.wcsp.specs.Unsettled.{lowestUnsettled, bucketsFrom}
 use Rattle.wcsp.specs.Rebuild.{rebuilt, tailWeight}
 use Rattle.wcsp.specs.Theorems.{falsifiedCount}
 
@@ -69,6 +70,24 @@ second-row = refl
 variable : nextPair (3 ∷ 3 ∷ []) ((0 ∷ 1 ∷ []) weighted 1 ∷ (0 ∷ 2 ∷ []) weighted 1 ∷ (1 ∷ 0 ∷ []) weighted 1 ∷ (2 ∷ 0 ∷ []) weighted 1 ∷ []) ≡ some (pair 0 2 3)
 unfolding pair full within present bucket permitted nextPair
 variable = refl
+
+-- ---- the lowest unsettled variable
+
+-- two rows with variable 0 whose signs nest are settled, the two of variable 1 are not
+unsettled : lowestUnsettled (3 ∷ 3 ∷ []) ((0 ∷ 1 ∷ []) weighted 1 ∷ (1 ∷ 0 ∷ []) weighted 1 ∷ (3 ∷ 0 ∷ []) weighted 1 ∷ (0 ∷ 2 ∷ []) weighted 1 ∷ []) ≡ 1
+unfolding full within present bucket permitted nextPair lowestUnsettled
+unsettled = refl
+
+-- with no pair left it is the number of variables
+all-settled : lowestUnsettled (3 ∷ 3 ∷ []) ((1 ∷ 0 ∷ []) weighted 1 ∷ (0 ∷ 2 ∷ []) weighted 1 ∷ []) ≡ 2
+unfolding full within present bucket permitted nextPair lowestUnsettled
+all-settled = refl
+
+-- the rows of variable 1 stay, and so does the empty row; that of variable 0 leaves an empty place
+from-one : bucketsFrom 1 ((0 ∷ 1 ∷ []) weighted 4 ∷ (1 ∷ 2 ∷ []) weighted 2 ∷ (0 ∷ 0 ∷ []) weighted 1 ∷ [])
+    ≡ (0 ∷ 1 ∷ []) weighted 4 ∷ noRow ∷ (0 ∷ 0 ∷ []) weighted 1 ∷ []
+unfolding bucket bucketsFrom
+from-one = refl
 
 -- ---- the rebuilt assignment
 

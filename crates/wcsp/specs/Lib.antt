@@ -5,6 +5,7 @@ pub mod Row
 pub mod Entry
 pub mod Rule
 pub mod Resolve
+pub mod Unsettled
 pub mod Rebuild
 pub mod Bound
 pub mod Theorems

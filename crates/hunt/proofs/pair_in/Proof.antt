@@ -1,8 +1,11 @@
 -- `pair_in` meets its contract: no row before i is the first of a pair, and the hunt for row i's second row starts past those that do not go with it.
 use Prim.Native.Nat.{_-_}
 use native.Mathlib.Omega.{arith}
+use mathlib.Core.Path.{sym, ap, _∙_}
 use mathlib.Core.Logic.{⊎-elim, inl, inr}
 use borrow.Author.Needs.{needs}
+use lib.ListN.{getD}
+use Rattle.clause.specs.Packed.{signsOf}
 use Rattle.hunt.proofs.Pairing.{Over, Tried, tried-start, paired, alone, elsewhere, absent, nothing}
 use Rattle.hunt.proofs.pair_in.Statement.{statement}
 use Rattle.hunt.proofs.pair_in.Tie as tie
@@ -32,7 +35,16 @@ add-next : tie.Need-add-next Inv-loop μ-loop
 add-next c = omega arith
 
 seek-requires : tie.Need-seek-requires Inv-loop μ-loop
-seek-requires c κs = search needs
+seek-requires c κs =
+    let low = c .before .before in
+    let read = low .before .before .before in
+    let s = read .before .before .before .before in (
+      omega (arith, s .pre .0),
+      low .before .clause-of .ensures .1,
+      s .pre .1,
+      omega (arith, s .pre .2),
+      omega (arith, read .sign-at .ensures ∙ ap (λ x. getD (signsOf x) (s .args .v) 0) (sym (low .before .clause-of .ensures .0))),
+    )
 
 enum-known-found : tie.Need-enum-known-found Inv-loop μ-loop
 enum-known-found c = search needs

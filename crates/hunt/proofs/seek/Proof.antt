@@ -9,16 +9,13 @@ use Rattle.hunt.proofs.seek.Statement.{statement}
 use Rattle.hunt.proofs.seek.Tie as tie
 
 abbrev Inv-loop : tie.InvT-loop
-Inv-loop t base count x v from fulls sign j₀ j = Sought t base count x v fulls from j
+Inv-loop t base count x v sign from fulls j₀ j = Sought t base count x v fulls from j
 
 abbrev μ-loop : tie.MeasureT-loop
-μ-loop t base count x v from fulls sign j₀ j = count - j
+μ-loop t base count x v sign from fulls j₀ j = count - j
 
 loop-holds : tie.Need-loop-holds Inv-loop μ-loop
 loop-holds c = λ ds f r g k. refl
-
-sign-requires : tie.Need-sign-requires Inv-loop μ-loop
-sign-requires c κs = search needs
 
 sign-at-requires : tie.Need-sign-at-requires Inv-loop μ-loop
 sign-at-requires c κs = (omega arith, omega arith)
@@ -40,9 +37,10 @@ returns c =
     let low = c .before .before .before in
     let nested = low .before .before .before in
     let turn = nested .before .before .before in
-    let g = turn .before .before .before .args in
+    let start = turn .before .before in
+    let g = start .args in
     found (g .t .now) (g .base) (g .count) (g .x) (g .v) (g .fulls) (g .from) (turn .loop .j) (omega arith) (turn .loop .inv)
-    _ (turn .before .sign .ensures .0) _ (nested .before .sign-at .ensures) _ (nested .nest .ensures)
+    _ (start .pre .4) _ (nested .before .sign-at .ensures) _ (nested .nest .ensures)
     _ (low .before .clause-of .ensures .0) _ (low .lowest .ensures .0) _ (c .before .clashes .ensures)
     (low .before .before .if1 .taken) (c .before .before .if2 .taken) (c .if3 .taken)
 
@@ -55,22 +53,23 @@ loop-less c = omega arith
 loop-again : tie.Need-loop-again Inv-loop μ-loop
 loop-again c =
     let turn = c .before .before .before .before in
-    let g = turn .before .before .before .args in
+    let start = turn .before .before in
+    let g = start .args in
     ⊎-elim
     (λ w. clash-passed (g .t .now) (g .base) (g .count) (g .x) (g .v) (g .fulls) (g .from) (turn .loop .j) (omega arith) (turn .loop .inv)
-    _ (turn .before .sign .ensures .0) _ (c .before .before .sign-at .ensures) _ (c .before .nest .ensures)
+    _ (start .pre .4) _ (c .before .before .sign-at .ensures) _ (c .before .nest .ensures)
     _ (w .1 .ensures .0) _ (w .2 .ensures .0) _ (w .4 .ensures) (w .5 .left))
     (⊎-elim
     (λ w. other-bucket (g .t .now) (g .base) (g .count) (g .x) (g .v) (g .fulls) (g .from) (turn .loop .j) (omega arith) (turn .loop .inv)
-    _ (turn .before .sign .ensures .0) _ (c .before .before .sign-at .ensures) _ (c .before .nest .ensures)
+    _ (start .pre .4) _ (c .before .before .sign-at .ensures) _ (c .before .nest .ensures)
     _ (w .1 .ensures .0) _ (w .2 .ensures .0) (w .3 .left))
     (λ w. nested-passed (g .t .now) (g .base) (g .count) (g .x) (g .v) (g .fulls) (g .from) (turn .loop .j) (omega arith) (turn .loop .inv)
-    _ (turn .before .sign .ensures .0) _ (c .before .before .sign-at .ensures) _ (c .before .nest .ensures) (w .left)))
+    _ (start .pre .4) _ (c .before .before .sign-at .ensures) _ (c .before .nest .ensures) (w .left)))
     (c .if1 .came)
 
 returns-2 : tie.Need-returns-2 Inv-loop μ-loop
 returns-2 c =
-    let g = c .before .before .before .before .args in
+    let g = c .before .before .before .args in
     missing (g .t .now) (g .base) (g .count) (g .x) (g .v) (g .fulls) (g .from) (c .before .loop .j) (c .before .loop .inv) (omega arith)
 
 pub seek-spec : {M : Type 1} → statement M
@@ -79,7 +78,6 @@ seek-spec =
     (tie.spec
     Inv-loop
     μ-loop
-    sign-requires
     loop-holds
     sign-at-requires
     nest-requires

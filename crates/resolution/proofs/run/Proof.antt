@@ -49,10 +49,10 @@ same-length-3 c = search needs
 
 returns-2 : tie.Need-returns-2
 returns-2 c =
-    let r = c .before .before .before .before in
+    let r = c .before .before .before .before .before in
     let k = r .before .before .before .before .before in
     let s = k .before .before .before .before .before .before in
-    ran-valid (s .args .t .now) (s .args .limit) (s .args .slice .now) (valid k .0) _ (r .before .before .before .lesser .ensures) _ _ _ (r .run-valid .ensures)
+    ran-valid (s .args .t .now) (s .args .limit) (s .args .slice .now) (valid k .0) _ (r .before .before .before .lesser .ensures) _ _ _ (r .run-valid .ensures .0)
 
 pub run-spec : {M : Type 1} → statement M
 run-spec =

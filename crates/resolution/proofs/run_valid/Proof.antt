@@ -1,8 +1,8 @@
 -- `run_valid` meets its contract: what is kept from turn to turn says that the run still to go is the whole run, and each way out of the loop
 -- is one of its endings.
-use Prim.Native.Nat.{_+_, _-_, _<_}
+use Prim.Native.Nat.{ℕ, _+_, _-_, _<_}
 use native.Mathlib.Omega.{arith}
-use mathlib.Core.Path.{_≡_, ap, _∙_}
+use mathlib.Core.Path.{_≡_, refl, ap, _∙_}
 use mathlib.Core.Option.{some}
 use borrow.Author.Needs.{needs}
 use lib.ListN.{length}
@@ -16,24 +16,24 @@ use Rattle.resolution.proofs.run_valid.Statement.{statement}
 use Rattle.resolution.proofs.run_valid.Tie as tie
 
 abbrev Inv-loop : tie.InvT-loop
-Inv-loop t₀ most slice₀ n fulls base count₀ bucket₀ skip₀ from₀ made₀ t slice count bucket skip from made =
-    Going t₀ most slice₀ t slice count bucket skip from made × (base ≡ variablesOf t₀ + 2) × (n ≡ variablesOf t₀) × (fulls ≡ fullClause (domains t₀))
+Inv-loop t₀ most slice₀ n fulls base count₀ lowest₀ skip₀ from₀ made₀ t slice count lowest skip from made =
+    Going t₀ most slice₀ t slice count lowest skip from made × (base ≡ variablesOf t₀ + 2) × (n ≡ variablesOf t₀) × (fulls ≡ fullClause (domains t₀))
 
 abbrev μ-loop : tie.MeasureT-loop
-μ-loop t₀ most slice₀ n fulls base count₀ bucket₀ skip₀ from₀ made₀ t slice count bucket skip from made = most - made
+μ-loop t₀ most slice₀ n fulls base count₀ lowest₀ skip₀ from₀ made₀ t slice count lowest skip from made = most - made
 
--- the pair that the hunt found is the next one
-next : (n : tie.After-found Inv-loop μ-loop)
+-- the pair that the hunt found is the next one, on the value moved on
+next : (n : tie.After-found Inv-loop μ-loop) (v : ℕ) → v ≡ n .before .before .before .before .loop .lowest + n .found .given .0 .0
     → nextPair (domains (n .before .before .before .before .loop .t)) (tableRows (n .before .before .before .before .loop .t))
-    ≡ some (record { variable = n .found .given .0 .0; first = n .found .given .0 .1 .0; second = n .found .given .0 .1 .1 .0 })
+    ≡ some (record { variable = v; first = n .found .given .0 .1 .0; second = n .found .given .0 .1 .1 .0 })
 next n =
     let h = n .before .before in
     let i = h .before .before .loop .inv in
-    one-next (i .0) (i .1) (i .3) (h .hunt .ensures) (n .found .given .1)
+    one-next (i .0) (i .1) (i .3) (h .hunt .ensures) (omega arith) (n .found .given .1)
 
-bounds : (n : tie.After-found Inv-loop μ-loop)
-    → Numbers (rowCount (n .before .before .before .before .loop .t)) (n .found .given .0 .0) (n .found .given .0 .1 .0) (n .found .given .0 .1 .1 .0)
-bounds n = numbers _ (n .before .before .before .before .loop .inv .0 .valid) _ (next n)
+bounds : (n : tie.After-found Inv-loop μ-loop) (v : ℕ) → v ≡ n .before .before .before .before .loop .lowest + n .found .given .0 .0
+    → Numbers (rowCount (n .before .before .before .before .loop .t)) v (n .found .given .0 .1 .0) (n .found .given .0 .1 .1 .0)
+bounds n v e = numbers _ (n .before .before .before .before .loop .inv .0 .valid) _ (next n v e)
 
 add-base : tie.Need-add-base Inv-loop μ-loop
 add-base c =
@@ -46,14 +46,14 @@ loop-holds c =
     let s = c .before .before .before in
     let t = s .args .t .now in
     let e = s .pre .1 in (
-      going-start t (s .args .most) (s .args .slice .now) _ (s .pre .0) (shape-count t (s .pre .0) _ e) (s .pre .2),
+      going-start t (s .args .most) (s .args .slice .now) _ (s .pre .0) (shape-count t (s .pre .0) _ e) (s .pre .2) _ (omega arith),
       shape-front t (s .pre .0) _ e,
       ap (λ u. u .variables) e,
       shape-fulls t (s .pre .0) _ e,
     )
 
 hunt-requires : tie.Need-hunt-requires Inv-loop μ-loop
-hunt-requires c κs = let i = c .before .loop .inv in hunt-asks (i .0) (i .1) (i .3)
+hunt-requires c κs = let i = c .before .loop .inv in let (room, packed, low) = hunt-asks (i .0) (i .1) (i .3) in (room, packed, omega (arith, low))
 
 enum-known-found : tie.Need-enum-known-found Inv-loop μ-loop
 enum-known-found c = search needs
@@ -74,7 +74,11 @@ returns : tie.Need-returns Inv-loop μ-loop
 returns c =
     let h = c .before .before .before .before in
     let i = h .before .before .loop .inv in
-    gives-done (i .0) (none-left (i .0) (i .1) (i .3) (h .hunt .ensures) (c .before .before .enum-told .given .1)) _ (c .ended .ensures)
+    gives-done (i .0) (none-left (i .0) (i .1) (i .3) (h .hunt .ensures) (omega arith) (c .before .before .enum-told .given .1)) _ (c .ended .ensures)
+
+-- the value stays below twelve
+add-lowest : tie.Need-add-lowest Inv-loop μ-loop
+add-lowest c = omega (arith, bounds (c .before) _ refl .known)
 
 ended-requires-2 : tie.Need-ended-requires-2 Inv-loop μ-loop
 ended-requires-2 c κs = let i = c .before .before .before .before .before .before .before .loop .inv in ended-asks (i .0) (i .1) (i .3)
@@ -88,21 +92,21 @@ same-length-4 c = c .before .before .before .before .before .before .before .bef
 returns-2 : tie.Need-returns-2 Inv-loop μ-loop
 returns-2 c =
     let n = c .before .before .before .before in
-    gives-paused (n .before .before .before .before .loop .inv .0) _ (next n) (omega (arith, c .before .before .if1 .taken)) _ (c .ended2 .ensures)
+    gives-paused (n .before .before .before .before .loop .inv .0) _ (next n _ (omega arith)) (omega (arith, c .before .before .if1 .taken)) _ (c .ended2 .ensures)
 
 resume-requires : tie.Need-resume-requires Inv-loop μ-loop
 resume-requires c κs =
     let n = c .before .before .before in
     let i = n .before .before .before .before .loop .inv in
     let asks = ended-asks (i .0) (i .1) (i .3) in
-    let b = bounds n in
+    let b = bounds n _ refl in
     (asks .0, asks .1, omega (arith, b .ordered, b .second), b .second)
 
 advance-requires : tie.Need-advance-requires Inv-loop μ-loop
 advance-requires c κs =
     let n = c .before .before .before .before .before in
     let i = n .before .before .before .before .loop .inv in
-    (i .0 .valid, shaped (i .0) (i .1) (i .3) (i .2), permitted _ (i .0 .valid) _ (next n))
+    (i .0 .valid, shaped (i .0) (i .1) (i .3) (i .2), permitted _ (i .0 .valid) _ (next n _ (omega arith)))
 
 enum-known-advanced : tie.Need-enum-known-advanced Inv-loop μ-loop
 enum-known-advanced c = search needs
@@ -139,21 +143,21 @@ returns-3 c =
     let a = told .before .before .before .before in
     let n = a .before .before .before .before .before .before in
     let g = n .before .before .before .before .loop .inv .0 in
-    gives-refused g _ (next n) (omega (arith, g .within, a .before .before .before .before .if1 .left)) _ _
+    gives-refused g _ (next n _ (omega arith)) (omega (arith, g .within, a .before .before .before .before .if1 .left)) _ _
     (advance-refused _ _ _ _ (a .advance .ensures) _ (told .enum-told2 .given .1)) _ _
-    (c .before .refusal-in .ensures .0 _ (told .enum-told2 .given .1)) (c .ended3 .ensures)
+    (c .before .before .refusal-in .ensures .0 _ (told .enum-told2 .given .1)) (c .ended3 .ensures)
 
 cast-step : tie.Need-cast-step Inv-loop μ-loop
 cast-step c =
-    let b = bounds (c .before .before .before .before .before .before .before .before .before .before .before) in
+    let b = bounds (c .before .before .before .before .before .before .before .before .before .before .before) _ refl in
     omega (arith, b .ordered, b .second, b .most)
 
 cast-step-2 : tie.Need-cast-step-2 Inv-loop μ-loop
-cast-step-2 c = let b = bounds (c .before .before .before .before .before .before .before .before .before .before .before) in omega (arith, b .second, b .most)
+cast-step-2 c = let b = bounds (c .before .before .before .before .before .before .before .before .before .before .before) _ refl in omega (arith, b .second, b .most)
 
 step-requires : tie.Need-step-requires Inv-loop μ-loop
 step-requires c κs =
-    let b = bounds (c .before .before .before .before .before .before .before .before .before .before .before) in
+    let b = bounds (c .before .before .before .before .before .before .before .before .before .before .before) _ refl in
     (omega (arith, b .known), omega (arith, b .ordered, b .second, b .most), omega (arith, b .second, b .most))
 
 -- a word that is made has a place
@@ -185,7 +189,7 @@ loop-again c =
     let a = c .before .before .before .before .before .before in
     let n = a .before .before .before .before .before .before in
     let i = n .before .before .before .before .loop .inv in (
-      going-on (i .0) _ (next n) (omega (arith, i .0 .within, a .before .before .before .before .if1 .left)) _ _
+      going-on (i .0) _ (next n _ (omega arith)) (omega (arith, i .0 .within, a .before .before .before .before .if1 .left)) _ _
           (advance-made _ _ _ _ (a .advance .ensures) _ (c .before .before .advanced .given .1)) _ (c .step .ensures)
           _ (a .before .before .resume .ensures),
       i .1,
@@ -208,6 +212,7 @@ run-valid-spec =
     same-length
     same-length-2
     returns
+    add-lowest
     ended-requires-2
     same-length-3
     same-length-4
