@@ -17,9 +17,9 @@ use Rattle.table.specs.Valid.{validTableIn, validTable}
 use Rattle.table.proofs.FormTables.{passed, length-sizes}
 use Rattle.table.proofs.RawRows.{tableLaws}
 use Rattle.encoding.specs.Calls.{encodedRows}
-use Rattle.conversion.specs.Five.{fiveForm}
+use Rattle.fiveform.specs.Five.{fiveForm}
+use Rattle.fiveform.proofs.FiveLaws.{fiveLaws}
 use Rattle.conversion.specs.Calls.{toSixCall}
-use Rattle.conversion.proofs.FiveLaws.{fiveLaws}
 use Rattle.conversion.proofs.Theorems.{convertsBy, by-tests, five-light}
 use Rattle.calls.specs.Calls.{State, afterCalls}
 use Rattle.calls.specs.Demand.{room, UpheldFive, ComesIn, Comes, UpheldOf, Demand3}

@@ -18,7 +18,7 @@ use Rattle.table.proofs.TableLaws.{TableLaws}
 use Rattle.table.proofs.RawRows.{tableLaws}
 use Rattle.table.proofs.Own.{Held, validIsCanonicalIn}
 use Rattle.encoding.specs.Calls.{encodedRows}
-use Rattle.conversion.specs.Five.{fiveForm}
+use Rattle.fiveform.specs.Five.{fiveForm}
 use Rattle.conversion.specs.Calls.{ConvertReturned, toSixCall, toFiveCall}
 use Rattle.conversion.specs.Theorems.{Same}
 use Rattle.conversion.proofs.Theorems.{good-of, conversions}

@@ -23,7 +23,7 @@ use Rattle.table.specs.Layout.{tableWordsIn, capacityIn}
 use Rattle.table.specs.Meaning.{tableRowsIn, ownRowsIn, tableSizes, domains}
 use Rattle.table.specs.Valid.{validTableIn, validSigns, signKinds, hasSigns}
 use Rattle.encoding.specs.Calls.{encodeCall}
-use Rattle.conversion.specs.Five.{fiveAt, fiveWeighs, fiveRowOf}
+use Rattle.fiveform.specs.Five.{fiveAt, fiveWeighs, fiveRowOf}
 use Rattle.conversion.specs.Calls.{convertCall}
 use Rattle.stepping.specs.Step.{allowed}
 use Rattle.resolution.specs.Step.{oneStep}

@@ -21,7 +21,7 @@ use Rattle.table.specs.Raws.{standardForm}
 use Rattle.table.specs.Layout.{rowsAt, tableWordsIn, tableWords, capacity}
 use Rattle.table.specs.Meaning.{tableSizes, ownRowsIn, ownRows}
 use Rattle.table.specs.Valid.{validTableIn, validTable}
-use Rattle.conversion.specs.Five.{fiveForm}
+use Rattle.fiveform.specs.Five.{fiveForm}
 use Rattle.conversion.specs.Calls.{toSixCall}
 use Rattle.encoding.specs.Calls.{encodedRows, encodeCall}
 use Rattle.stepping.specs.Step.{pairWord}

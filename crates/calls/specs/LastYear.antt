@@ -6,7 +6,7 @@ use mathlib.Core.List.{List}
 use Rattle.fields.specs.Answers.{refused}
 use Rattle.table.specs.Meaning.{rowCount}
 use Rattle.table.specs.Valid.{validTableIn}
-use Rattle.conversion.specs.Five.{fiveForm}
+use Rattle.fiveform.specs.Five.{fiveForm}
 use Rattle.conversion.specs.Calls.{toFiveCall}
 use Rattle.resolution.specs.declared.StepAnswer.the-variants.{Refused}
 use Rattle.resolution.specs.declared.Outcome.{Outcome}

@@ -19,7 +19,7 @@ use Rattle.table.specs.Layout.{rowsAt}
 use Rattle.table.specs.Meaning.{tableSizes, rowCount, ownRowsIn, ownRows}
 use Rattle.table.specs.Valid.{validTableIn, validTable}
 use Rattle.encoding.specs.Calls.{encodedRows, encodeCall}
-use Rattle.conversion.specs.Five.{fiveForm}
+use Rattle.fiveform.specs.Five.{fiveForm}
 use Rattle.resolution.specs.Calls.{RunReturned, runCall}
 use Rattle.resolution.specs.Numbers.{runNumber, runFields}
 use Rattle.assignment.specs.Calls.{planCall, tableAssignment}

@@ -25,9 +25,9 @@ use Rattle.table.specs.Valid.{isSigns, signKinds, validSigns, validRowIn, rowsV
 use Rattle.table.proofs.FormTables.{passed}
 use Rattle.table.proofs.RawRows.{tableLaws}
 use Rattle.table.proofs.Own.{own-count-in}
-use Rattle.conversion.specs.Five.{fiveForm}
+use Rattle.fiveform.specs.Five.{fiveForm}
+use Rattle.fiveform.proofs.FiveLaws.{fiveLaws}
 use Rattle.conversion.specs.Theorems.{OneFormWithRows, BothWithoutRows}
-use Rattle.conversion.proofs.FiveLaws.{fiveLaws}
 
 -- ---- with rows
 

@@ -12,7 +12,7 @@ use Rattle.table.specs.Raws.{standardForm}
 use Rattle.table.specs.Layout.{rowsAt, capacityIn, capacity}
 use Rattle.table.specs.Meaning.{variablesOf, ownRowsIn}
 use Rattle.table.specs.Valid.{validTableIn}
-use Rattle.conversion.specs.Five.{fiveForm}
+use Rattle.fiveform.specs.Five.{fiveForm}
 use Rattle.conversion.specs.Calls.{convertCall}
 use Rattle.conversion.specs.Order.{SixInOrder, FiveInOrder}
 use Rattle.conversion.proofs.Theorems.{convertsBy, by-tests, five-light}

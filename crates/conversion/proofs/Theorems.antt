@@ -21,10 +21,10 @@ use Rattle.table.proofs.TableLaws.{TableLaws}
 use Rattle.table.proofs.FormTables.{passed, length-sizes}
 use Rattle.table.proofs.RawRows.{tableLaws}
 use Rattle.table.proofs.Own.{validIsCanonicalIn, writtenReadsBackIn, own-count-in}
-use Rattle.conversion.specs.Five.{fiveMaxWeight, fiveForm}
+use Rattle.fiveform.specs.Five.{fiveMaxWeight, fiveForm}
+use Rattle.fiveform.proofs.FiveLaws.{fiveLaws}
 use Rattle.conversion.specs.Calls.{ConvertReturned, convertCall}
 use Rattle.conversion.specs.Theorems.{KeepsIn, BackIn, Conversions}
-use Rattle.conversion.proofs.FiveLaws.{fiveLaws}
 
 -- ---- a good call
 

@@ -12,7 +12,7 @@ use Rattle.table.specs.Raws.{rowOf}
 use Rattle.table.specs.Layout.{tableWordsIn, capacityIn}
 use Rattle.table.specs.Meaning.{tableRowsIn, ownRowsIn, tableSizes, domains}
 use Rattle.table.specs.Valid.{validTableIn, validSigns, signKinds, hasSigns}
-use Rattle.conversion.specs.Five.{fiveAt, fiveWeighs, fiveRowOf}
+use Rattle.fiveform.specs.Five.{fiveAt, fiveWeighs, fiveRowOf}
 use Rattle.conversion.specs.Calls.{convertCall}
 use Rattle.conversion.specs.Witness.{Worked}
 

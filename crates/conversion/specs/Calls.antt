@@ -12,7 +12,7 @@ use Rattle.table.specs.Raws.{standardForm}
 use Rattle.table.specs.Layout.{rowsAt, capacityIn, tableWordsIn}
 use Rattle.table.specs.Meaning.{variablesOf, tableSizes, ownRowsIn}
 use Rattle.table.specs.Valid.{validTableIn}
-use Rattle.conversion.specs.Five.{fiveForm}
+use Rattle.fiveform.specs.Five.{fiveForm}
 
 -- an answer and the target as the call returns
 pub record ConvertReturned : Type 0 where

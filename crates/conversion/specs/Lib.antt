@@ -1,5 +1,4 @@
--- Tables from last year: their form, the two conversions, and what these keep.
-pub mod Five
+-- Tables from last year: the two conversions, and what these keep.
 pub mod Calls
 pub mod Theorems
 pub mod Order

@@ -10,7 +10,7 @@ use Rattle.fields.specs.Order.{Test, _if_, firstOf, FirstInOrder}
 use Rattle.table.specs.Layout.{rowsAt, capacityIn, capacity}
 use Rattle.table.specs.Meaning.{variablesOf, ownRowsIn, ownRows}
 use Rattle.table.specs.Valid.{validTableIn, validTable}
-use Rattle.conversion.specs.Five.{fiveMaxWeight, fiveForm}
+use Rattle.fiveform.specs.Five.{fiveMaxWeight, fiveForm}
 use Rattle.conversion.specs.Calls.{toSixCall, toFiveCall}
 
 -- 9 for no valid table of five-word rows; 10 for a target shorter than head, sizes and row count; 12 for more rows than the target takes. Every

@@ -10,7 +10,7 @@ use Rattle.table.specs.Form.{TableForm}
 use Rattle.table.specs.Raws.{standardForm}
 use Rattle.table.specs.Meaning.{tableSizes, rowCount, ownRowsIn}
 use Rattle.table.specs.Valid.{validTableIn, validTable}
-use Rattle.conversion.specs.Five.{fiveForm}
+use Rattle.fiveform.specs.Five.{fiveForm}
 use Rattle.conversion.specs.Calls.{convertCall}
 
 -- ---- what a good conversion keeps

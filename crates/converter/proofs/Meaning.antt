@@ -18,10 +18,10 @@ use Rattle.table.proofs.TableLaws.{TableLaws}
 use Rattle.table.proofs.FormTables.{PassedIn, passed, length-sizes, room-rows}
 use Rattle.table.proofs.FormTables as forms
 use Rattle.table.proofs.RawRows.{tableLaws}
-use Rattle.conversion.specs.Five.{fiveForm}
+use Rattle.fiveform.specs.Five.{fiveForm}
+use Rattle.fiveform.proofs.FiveLaws.{fiveLaws}
 use Rattle.conversion.specs.Calls.{ConvertReturned, convertCall}
 use Rattle.conversion.specs.Theorems.{KeepsIn, BackIn}
-use Rattle.conversion.proofs.FiveLaws.{fiveLaws}
 use Rattle.conversion.proofs.Theorems.{good-of, of-good, conversions}
 use Rattle.converter.specs.Converted.{mostWords, wantedForm, wantedWords, tableIn, requestFault, convertedIn, answerBytes, convertedBytes}
 use Rattle.converter.specs.Theorems.{letterR, Made, Answers, refuses, makesSix, makesFive, ConvertedMeans, request, RestoredFrom, ThereAndBack}

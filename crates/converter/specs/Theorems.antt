@@ -10,7 +10,7 @@ use Rattle.littleendian.specs.Words.{wordsIn, bytesOf}
 use Rattle.table.specs.Form.{TableForm}
 use Rattle.table.specs.Raws.{standardForm}
 use Rattle.table.specs.Meaning.{variablesOf}
-use Rattle.conversion.specs.Five.{fiveForm}
+use Rattle.fiveform.specs.Five.{fiveForm}
 use Rattle.conversion.specs.Theorems.{Same}
 use Rattle.text.specs.Text.{refusedLine}
 use Rattle.converter.specs.Converted.{wantedForm, wantedWords, tableIn, convertedBytes}

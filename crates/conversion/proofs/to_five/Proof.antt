@@ -15,8 +15,8 @@ use Rattle.table.specs.Valid.{validTable}
 use Rattle.table.specs.Check.{shapeOf}
 use Rattle.table.proofs.RawRows.{tableLaws}
 use Rattle.table.proofs.Tested.{table-valid}
-use Rattle.conversion.specs.Five.{fiveMaxWeight, fiveForm}
-use Rattle.conversion.proofs.FiveLaws.{fiveLaws}
+use Rattle.fiveform.specs.Five.{fiveMaxWeight, fiveForm}
+use Rattle.fiveform.proofs.FiveLaws.{fiveLaws}
 use Rattle.conversion.proofs.Converting.{not-a-table, few, rows-there, too-short, too-wide, no-room, room-there, started-long, none-laid, written-long, converted}
 use Rattle.conversion.proofs.to_five.Statement.{statement}
 use Rattle.conversion.proofs.to_five.Tie as tie

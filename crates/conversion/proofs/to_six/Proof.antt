@@ -16,8 +16,8 @@ use Rattle.table.specs.Valid.{validTableIn}
 use Rattle.table.specs.Check.{shapeOf}
 use Rattle.table.proofs.RawRows.{tableLaws}
 use Rattle.table.proofs.Tested.{table-valid-in}
-use Rattle.conversion.specs.Five.{fiveForm}
-use Rattle.conversion.proofs.FiveLaws.{fiveLaws}
+use Rattle.fiveform.specs.Five.{fiveForm}
+use Rattle.fiveform.proofs.FiveLaws.{fiveLaws}
 use Rattle.conversion.proofs.Converting.{not-a-table, few, rows-there, light-enough, too-short, no-room, room-there, started-long, none-laid, written-long, converted}
 use Rattle.conversion.proofs.to_six.Statement.{statement}
 use Rattle.conversion.proofs.to_six.Tie as tie

@@ -6,9 +6,9 @@ use lib.ListN.{length, take, length-set}
 use lib.Seq.{paste, paste-zero}
 use borrow.Author.Needs.{needs}
 use Rattle.table.proofs.Clearing.{zeroed-long}
-use Rattle.conversion.proofs.Starting.{copied-next, started}
-use Rattle.conversion.proofs.start.Statement.{statement}
-use Rattle.conversion.proofs.start.Tie as tie
+use Rattle.rewriting.proofs.Starting.{copied-next, started}
+use Rattle.rewriting.proofs.start.Statement.{statement}
+use Rattle.rewriting.proofs.start.Tie as tie
 
 abbrev Inv-loop : tie.InvT-loop
 Inv-loop source target₀ n i₀ target i = (i ≤ n + 1) × (length target ≡ length target₀) × (target ≡ paste target₀ 0 (take (n + 1) source) i)

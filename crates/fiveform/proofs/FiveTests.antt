@@ -24,8 +24,8 @@ use Rattle.table.proofs.ValidParts.{absent-rows}
 use Rattle.table.proofs.FormRows.{length-rowsFrom}
 use Rattle.table.proofs.FormTests.{signsAt, signs-at, absent-each, TestedFor, AllValid}
 use Rattle.table.proofs.FormTests as forms
-use Rattle.conversion.specs.Five.{fiveWidth, fiveAt, isFiveWeight, fiveWeighs, fiveRowOf, fiveForm}
-use Rattle.conversion.proofs.FiveLaws.{fiveRowLaws, fiveLaws}
+use Rattle.fiveform.specs.Five.{fiveWidth, fiveAt, isFiveWeight, fiveWeighs, fiveRowOf, fiveForm}
+use Rattle.fiveform.proofs.FiveLaws.{fiveRowLaws, fiveLaws}
 
 -- ---- the signs of a row
 

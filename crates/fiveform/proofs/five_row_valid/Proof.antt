@@ -2,10 +2,10 @@
 use borrow.Author.Needs.{needs}
 use borrow.Author.Tests.{not-true, not-false}
 use Rattle.table.proofs.RowTests.{wrong-signs, wrong-weight, as-signs}
-use Rattle.conversion.specs.Five.{fiveForm}
-use Rattle.conversion.proofs.FiveTests.{signs-front}
-use Rattle.conversion.proofs.five_row_valid.Statement.{statement}
-use Rattle.conversion.proofs.five_row_valid.Tie as tie
+use Rattle.fiveform.specs.Five.{fiveForm}
+use Rattle.fiveform.proofs.FiveTests.{signs-front}
+use Rattle.fiveform.proofs.five_row_valid.Statement.{statement}
+use Rattle.fiveform.proofs.five_row_valid.Tie as tie
 
 returns : tie.Need-returns
 returns c =

@@ -4,11 +4,11 @@ use native.Mathlib.Omega.{arith}
 use mathlib.Core.Path.{_≡_}
 use borrow.Author.Tests.{not-true, not-false}
 use Rattle.table.proofs.FormTests.{TestedFor, none-tested, row-fails, all-pass}
-use Rattle.conversion.specs.Five.{fiveWidth, fiveForm}
-use Rattle.conversion.proofs.FiveLaws.{fiveLaws}
-use Rattle.conversion.proofs.FiveTests.{pair-fails, tested-more}
-use Rattle.conversion.proofs.five_rows_valid.Statement.{statement}
-use Rattle.conversion.proofs.five_rows_valid.Tie as tie
+use Rattle.fiveform.specs.Five.{fiveWidth, fiveForm}
+use Rattle.fiveform.proofs.FiveLaws.{fiveLaws}
+use Rattle.fiveform.proofs.FiveTests.{pair-fails, tested-more}
+use Rattle.fiveform.proofs.five_rows_valid.Statement.{statement}
+use Rattle.fiveform.proofs.five_rows_valid.Tie as tie
 
 abbrev Inv-loop : tie.InvT-loop
 Inv-loop t base count fulls k₀ at₀ k at = (k ≤ count) × (at ≡ base + fiveWidth * k) × TestedFor fiveForm fulls t base k

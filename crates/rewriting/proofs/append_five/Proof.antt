@@ -2,10 +2,10 @@
 use native.Mathlib.Omega.{arith}
 use borrow.Author.Needs.{needs}
 use Rattle.rows.proofs.FormTables.{row-lent}
-use Rattle.conversion.specs.Five.{fiveRow, fiveRows}
-use Rattle.conversion.proofs.FiveLaws.{fiveRowLaws}
-use Rattle.conversion.proofs.append_five.Statement.{statement}
-use Rattle.conversion.proofs.append_five.Tie as tie
+use Rattle.fiveform.specs.Five.{fiveRow, fiveRows}
+use Rattle.fiveform.proofs.FiveLaws.{fiveRowLaws}
+use Rattle.rewriting.proofs.append_five.Statement.{statement}
+use Rattle.rewriting.proofs.append_five.Tie as tie
 
 returns : tie.Need-returns
 returns c =

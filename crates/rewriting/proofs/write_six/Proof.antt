@@ -5,11 +5,11 @@ use mathlib.Core.Path.{_≡_}
 use borrow.Author.Needs.{needs}
 use Rattle.rows.proofs.Flat.{rowLaws}
 use Rattle.table.specs.Raws.{standardForm}
-use Rattle.conversion.specs.Five.{fiveWidth, fiveForm}
-use Rattle.conversion.proofs.FiveLaws.{fiveLaws}
-use Rattle.conversion.proofs.Rewriting.{six-of-five, Rewritten, rewritten-start, rewritten-laid, rewritten-next, rewritten-end}
-use Rattle.conversion.proofs.write_six.Statement.{statement}
-use Rattle.conversion.proofs.write_six.Tie as tie
+use Rattle.fiveform.specs.Five.{fiveWidth, fiveForm}
+use Rattle.fiveform.proofs.FiveLaws.{fiveLaws}
+use Rattle.rewriting.proofs.Rewriting.{six-of-five, Rewritten, rewritten-start, rewritten-laid, rewritten-next, rewritten-end}
+use Rattle.rewriting.proofs.write_six.Statement.{statement}
+use Rattle.rewriting.proofs.write_six.Tie as tie
 
 abbrev Inv-loop : tie.InvT-loop
 Inv-loop source target₀ base count k₀ at₀ target k at =

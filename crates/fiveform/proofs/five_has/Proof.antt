@@ -7,10 +7,10 @@ use lib.ListN.{drop}
 use Rattle.clause.specs.Packed.{signsOf}
 use Rattle.table.specs.Meaning.{rowsFromIn}
 use Rattle.table.specs.Valid.{hasSigns}
-use Rattle.conversion.specs.Five.{fiveWidth, fiveForm}
-use Rattle.conversion.proofs.FiveTests.{has-start, has-here, has-next, has-end}
-use Rattle.conversion.proofs.five_has.Statement.{statement}
-use Rattle.conversion.proofs.five_has.Tie as tie
+use Rattle.fiveform.specs.Five.{fiveWidth, fiveForm}
+use Rattle.fiveform.proofs.FiveTests.{has-start, has-here, has-next, has-end}
+use Rattle.fiveform.proofs.five_has.Statement.{statement}
+use Rattle.fiveform.proofs.five_has.Tie as tie
 
 abbrev Inv-loop : tie.InvT-loop
 Inv-loop t base count x k₀ at₀ k at =

@@ -1,9 +1,9 @@
 -- `five_weight_there` meets its contract: the kind of the word behind the sign words, then whether its payload is 0.
 use native.Mathlib.Omega.{arith}
 use borrow.Author.Needs.{needs}
-use Rattle.conversion.proofs.FiveTests.{kind-other, as-payload}
-use Rattle.conversion.proofs.five_weight_there.Statement.{statement}
-use Rattle.conversion.proofs.five_weight_there.Tie as tie
+use Rattle.fiveform.proofs.FiveTests.{kind-other, as-payload}
+use Rattle.fiveform.proofs.five_weight_there.Statement.{statement}
+use Rattle.fiveform.proofs.five_weight_there.Tie as tie
 
 returns : tie.Need-returns
 returns c =

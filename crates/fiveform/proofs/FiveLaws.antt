@@ -18,7 +18,7 @@ use Rattle.table.specs.Valid.{signKinds}
 use Rattle.table.proofs.Carried.{CarriedIn}
 use Rattle.table.proofs.SignWords.{twelve-said, signs-said, words-made, words-pass, clause-wide}
 use Rattle.table.proofs.TableLaws.{TableLaws}
-use Rattle.conversion.specs.Five.{fiveWidth, fiveMaxWeight, FiveRaw, fiveWords, fiveAt, fiveRows, isFiveWeight, fiveWeighs, fiveRowOf, fiveRawOf, fiveForm}
+use Rattle.fiveform.specs.Five.{fiveWidth, fiveMaxWeight, FiveRaw, fiveWords, fiveAt, fiveRows, isFiveWeight, fiveWeighs, fiveRowOf, fiveRawOf, fiveForm}
 
 -- ---- the form of the rows
 

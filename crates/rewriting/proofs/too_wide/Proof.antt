@@ -2,10 +2,10 @@
 use Prim.Native.Nat.{_-_, _≤_}
 use native.Mathlib.Omega.{arith}
 use borrow.Author.Count.{below-more}
-use Rattle.conversion.specs.Five.{fiveMaxWeight}
-use Rattle.conversion.proofs.Weights.{Light, none-heavy, one-heavy}
-use Rattle.conversion.proofs.too_wide.Statement.{statement}
-use Rattle.conversion.proofs.too_wide.Tie as tie
+use Rattle.fiveform.specs.Five.{fiveMaxWeight}
+use Rattle.rewriting.proofs.Weights.{Light, none-heavy, one-heavy}
+use Rattle.rewriting.proofs.too_wide.Statement.{statement}
+use Rattle.rewriting.proofs.too_wide.Tie as tie
 
 abbrev Inv-loop : tie.InvT-loop
 Inv-loop t base count k₀ k = (k ≤ count) × Light fiveMaxWeight t base k

@@ -9,9 +9,9 @@ use borrow.Author.Tests.{not-true, not-false}
 use Rattle.table.specs.Layout.{capacityIn}
 use Rattle.table.proofs.FormTables.{room-rows}
 use Rattle.table.proofs.Checking.{Front, front-told, front-bad, no-capacity, bad-rows, bad-zeros, all-good}
-use Rattle.conversion.specs.Five.{fiveForm}
-use Rattle.conversion.proofs.check_five.Statement.{statement}
-use Rattle.conversion.proofs.check_five.Tie as tie
+use Rattle.fiveform.specs.Five.{fiveForm}
+use Rattle.fiveform.proofs.check_five.Statement.{statement}
+use Rattle.fiveform.proofs.check_five.Tie as tie
 
 -- the slice, where its front has passed, and what is known there
 abbrev at-front : tie.After-known-told → List ℕ

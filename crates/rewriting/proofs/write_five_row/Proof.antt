@@ -1,9 +1,9 @@
 -- `write_five_row` meets its contract: the sign words written are those of x, and the weight's word is stored behind them.
 use native.Mathlib.Omega.{arith}
 use borrow.Author.Needs.{needs}
-use Rattle.conversion.proofs.Rewriting.{five-stored}
-use Rattle.conversion.proofs.write_five_row.Statement.{statement}
-use Rattle.conversion.proofs.write_five_row.Tie as tie
+use Rattle.rewriting.proofs.Rewriting.{five-stored}
+use Rattle.rewriting.proofs.write_five_row.Statement.{statement}
+use Rattle.rewriting.proofs.write_five_row.Tie as tie
 
 returns : tie.Need-returns
 returns c =

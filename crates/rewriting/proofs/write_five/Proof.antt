@@ -4,12 +4,12 @@ use Prim.Native.Nat.{_-_, _≤_}
 use native.Mathlib.Omega.{arith}
 use Rattle.table.specs.Raws.{standardForm}
 use Rattle.table.proofs.RawRows.{tableLaws}
-use Rattle.conversion.specs.Five.{fiveMaxWeight, fiveForm}
-use Rattle.conversion.proofs.FiveLaws.{fiveRowLaws}
-use Rattle.conversion.proofs.Weights.{light-at}
-use Rattle.conversion.proofs.Rewriting.{five-of-six, Rewritten, rewritten-start, rewritten-laid, rewritten-next, rewritten-end}
-use Rattle.conversion.proofs.write_five.Statement.{statement}
-use Rattle.conversion.proofs.write_five.Tie as tie
+use Rattle.fiveform.specs.Five.{fiveMaxWeight, fiveForm}
+use Rattle.fiveform.proofs.FiveLaws.{fiveRowLaws}
+use Rattle.rewriting.proofs.Weights.{light-at}
+use Rattle.rewriting.proofs.Rewriting.{five-of-six, Rewritten, rewritten-start, rewritten-laid, rewritten-next, rewritten-end}
+use Rattle.rewriting.proofs.write_five.Statement.{statement}
+use Rattle.rewriting.proofs.write_five.Tie as tie
 
 abbrev Inv-loop : tie.InvT-loop
 Inv-loop source target₀ base count k₀ target k = (k ≤ count) × Rewritten standardForm fiveForm tableLaws fiveRowLaws source base target₀ k target

@@ -17,7 +17,7 @@ use Rattle.table.specs.Meaning.{rowsFromIn}
 use Rattle.table.proofs.Twelve.{clauseFrom-signs}
 use Rattle.table.proofs.TableLaws.{TableLaws}
 use Rattle.table.proofs.FormRows.{length-rowsFrom, rows-next}
-use Rattle.conversion.specs.Five.{fiveWidth, fiveWords, fiveAt, fiveRowOf, fiveRow, fiveRawOf}
+use Rattle.fiveform.specs.Five.{fiveWidth, fiveWords, fiveAt, fiveRowOf, fiveRow, fiveRawOf}
 
 -- ---- one row
 

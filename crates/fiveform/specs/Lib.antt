@@ -1,0 +1,2 @@
+-- Tables from last year: their form.
+pub mod Five
