@@ -14,11 +14,11 @@ use Rattle.wcsp.proofs.Lists.{same-eq, same-sym}
 use Rattle.wcsp.proofs.Adding.{rowOf}
 use Rattle.clause.specs.declared.Clause.{Clause}
 use Rattle.clause.specs.Packed.{signsOf, FitsBlocks}
-use Rattle.rows.specs.Adding.{addedAt, added}
 use Rattle.rows.specs.declared.Found.{Found}
 use Rattle.rows.specs.declared.Found.the-variants.{At, Missing}
 use Rattle.rows.specs.Raw.{maxWeight, noRaw, weightIn, rawRow, findFrom, reweighed}
 use Rattle.rows.proofs.RowWords.{weight-rawRow}
+use Rattle.storing.specs.Adding.{addedAt, added}
 use Rattle.table.specs.Clauses.{clauseFrom}
 use Rattle.table.specs.Valid.{hasSigns}
 use Rattle.table.specs.Raws.{rawOf}

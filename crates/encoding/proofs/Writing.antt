@@ -11,10 +11,10 @@ use Rattle.fields.specs.Entries.{costOf}
 use Rattle.clause.specs.declared.Clause.{Clause}
 use Rattle.clause.specs.Packed.{signsOf, Holds}
 use Rattle.rows.specs.Raw.{maxWeight, noRaw, rawsIn, weightIn, Left}
-use Rattle.rows.specs.Adding.{added, Addable}
 use Rattle.rows.proofs.RowWords.{weight-rawRow}
-use Rattle.rows.proofs.FormTables.{left-trans, left-refl}
-use Rattle.rows.proofs.Laying.{left-read, left-laid}
+use Rattle.storing.specs.Adding.{added, Addable}
+use Rattle.storing.proofs.FormTables.{left-trans, left-refl}
+use Rattle.storing.proofs.Laying.{left-read, left-laid}
 use Rattle.table.specs.Clauses.{clauseFrom}
 use Rattle.table.specs.Raws.{rawOf}
 use Rattle.table.proofs.Twelve.{Twelve}

@@ -1,8 +1,8 @@
 // The encode call: an instance as rows in a table that the caller lends. It looks before it writes.
 ghost use mathlib.Core.Path.{_≡_};
-ghost use mathlib.Core.Bool.{true, not, _&&_, cond};
+ghost use mathlib.Core.Bool.{not, _&&_, cond};
 ghost use mathlib.Core.List.{[], map};
-ghost use Prim.Native.Nat.{_+_, _<_, _≤_};
+ghost use Prim.Native.Nat.{_+_, _≤_};
 ghost use lib.ListN.{length, take, drop};
 ghost use lib.Dec.{eqb, leb};
 ghost use Rattle.wcsp.specs.Sign.{full};
@@ -158,7 +158,7 @@ fn encode_entries(instance: &[u32], at: usize, t: &mut [u32], base: usize, fulls
     let mut i = at;
     while i < instance.len() {
         let w = instance[i];
-        count = rows::add(t, base, count, pending, fields::cost_of(w) as u64);
+        count = storing::add(t, base, count, pending, fields::cost_of(w) as u64);
         pending = signs_after(pending, w, fulls);
         i += 1;
     }

@@ -10,7 +10,7 @@ use Rattle.clause.specs.declared.Clause.{Clause}
 use Rattle.rows.specs.Form.{rawsFromIn, LaidIn, LeftIn}
 use Rattle.rows.specs.Raw.{rawAt, weightIn, rawRow, signWordsIn, clauseIn}
 use Rattle.rows.proofs.FormRows.{FormLaws}
-use Rattle.rows.proofs.FormTables.{left-trans, left-refl, left-read, left-laid}
+use Rattle.storing.proofs.FormTables.{left-trans, left-refl, left-read, left-laid}
 use Rattle.table.specs.Form.{TableForm}
 use Rattle.table.specs.Raws.{rowOf, rawOf}
 use Rattle.table.specs.Meaning.{rowsFromIn}

@@ -11,7 +11,7 @@ use Rattle.wcsp.specs.Row.{Row}
 use Rattle.words.specs.Layout.{sizeWord, countWord}
 use Rattle.fields.specs.Front.{frontWords}
 use Rattle.rows.specs.Form.{flatIn}
-use Rattle.rows.proofs.Stores.{copy-next, copy-end}
+use Rattle.storing.proofs.Stores.{copy-next, copy-end}
 use Rattle.table.specs.Form.{TableForm}
 use Rattle.table.specs.Layout.{rowsAt, tableWordsIn}
 use Rattle.table.proofs.Clearing.{zeroed-long}

@@ -39,7 +39,7 @@ pub fn write_six(source: &[u32], target: &mut [u32], base: usize, count: usize)
     let mut at = base;
     while k < count {
         let weight = words::payload(source[at + 4]) as u64;
-        rows::append(target, base, k, rows::clause_at(source, at), weight);
+        storing::append(target, base, k, rows::clause_at(source, at), weight);
         at += FIVE_WIDTH;
         k += 1;
     }
@@ -50,7 +50,7 @@ fn write_five_row(part: &mut [u32], x: Clause, weight: u32)
     requires { ⌜ (fiveWidth ≤ length (now part)) × FitsBlocks x × (weight ≤ fiveMaxWeight) ⌝ }
     ensures { λ r. ⌜ now (part .exit) ≡ fiveWords (fiveRow x weight) ++ drop fiveWidth (now (part .entry)) ⌝ }
 {
-    rows::write_signs(part, x);
+    storing::write_signs(part, x);
     part[4] = words::weight(weight);
 }
 

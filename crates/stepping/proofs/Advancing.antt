@@ -1,5 +1,5 @@
 -- The writes of a planned step, one after the other: each finds what it asks for, and in the end the slice holds the finished step.
-use Prim.Native.Nat.{ℕ, _+_, _-_, _*_, _<_, _≤_}
+use Prim.Native.Nat.{ℕ, _+_, _*_, _<_, _≤_}
 use native.Mathlib.Omega.{arith}
 use mathlib.Core.Path.{_≡_, refl, sym, ap, ap₂, _∙_}
 use mathlib.Core.Bool.{true, false}
@@ -20,7 +20,7 @@ use Rattle.words.specs.Layout.{countWord}
 use Rattle.conclusions.specs.Buffer.{clausesIn, PackedBuffer}
 use Rattle.conclusions.proofs.Filling.{clausesIn-length}
 use Rattle.rows.specs.Raw.{rowWidth, maxWeight, rawsIn, Laid, Left}
-use Rattle.rows.proofs.Laying.{left-read, left-laid, left-trans}
+use Rattle.storing.proofs.Laying.{left-read, left-laid, left-trans}
 use Rattle.table.specs.Layout.{maxRows, capacityIn, capacity, tableWords, tooHeavy}
 use Rattle.table.specs.Meaning.{variablesOf, tableSizes, tableRows, domains, capacityOf}
 use Rattle.table.specs.Valid.{validTable}

@@ -21,7 +21,7 @@ use Rattle.clause.specs.Packed.{signsOf}
 use Rattle.rows.specs.declared.Found.{Found}
 use Rattle.rows.specs.declared.Found.the-variants.{At, Missing}
 use Rattle.rows.specs.Raw.{maxWeight, Raw, rawRow, findFrom, reweighed, without}
-use Rattle.rows.proofs.Changes.{reweighed-past}
+use Rattle.storing.proofs.Changes.{reweighed-past}
 use Rattle.table.specs.Clauses.{clauseFrom}
 use Rattle.table.specs.Raws.{rawOf}
 use Rattle.table.proofs.Twelve.{Twelve, signs-clauseFrom}

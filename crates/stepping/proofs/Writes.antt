@@ -14,8 +14,8 @@ use Rattle.conclusions.specs.Buffer.{clausesIn}
 use Rattle.conclusions.proofs.Filling.{clausesIn-same-at}
 use Rattle.rows.specs.Raw.{rowWidth, Raw, rawAt, rawsIn, Laid, Left, weightIn, rawRow, reweighed, without}
 use Rattle.rows.proofs.Flat.{length-rawsFrom}
-use Rattle.rows.proofs.Laying.{left-read, left-laid, left-trans, left-refl}
-use Rattle.rows.proofs.Changes.{length-reweighed, reweighed-past, length-without}
+use Rattle.storing.proofs.Laying.{left-read, left-laid, left-trans, left-refl}
+use Rattle.storing.proofs.Changes.{length-reweighed, reweighed-past, length-without}
 use Rattle.table.specs.Clauses.{clauseFrom}
 use Rattle.table.proofs.Twelve.{clauseFrom-signs}
 use Rattle.stepping.specs.Turns.{weightAt, raisedTo, takenFrom, appendedTo}

@@ -109,7 +109,7 @@ fn raise(t: &mut [u32], base: usize, count: usize, places: &[usize; 26], kept: u
         let k = places[m];
         if k < count {
             let weight = rows::weight_of(t, base, k);
-            rows::reweigh(t, base, count, k, weight + moved);
+            storing::reweigh(t, base, count, k, weight + moved);
         }
         m += 1;
     }
@@ -122,10 +122,10 @@ fn lessen(t: &mut [u32], base: usize, count: usize, k: usize, moved: u64) -> usi
 {
     let weight = rows::weight_of(t, base, k);
     if weight == moved {
-        rows::remove(t, base, count, k);
+        storing::remove(t, base, count, k);
         return count - 1;
     }
-    rows::reweigh(t, base, count, k, weight - moved);
+    storing::reweigh(t, base, count, k, weight - moved);
     count
 }
 
@@ -147,7 +147,7 @@ fn append_missing(
     let mut m = 0;
     while m < kept {
         if places[m] == old {
-            rows::append(t, base, now, conclusions::clause_at(buffer, m), moved);
+            storing::append(t, base, now, conclusions::clause_at(buffer, m), moved);
             now += 1;
         }
         m += 1;

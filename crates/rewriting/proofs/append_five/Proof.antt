@@ -1,7 +1,7 @@
 -- `append_five` meets its contract: what `write_five_row` leaves of the part lent to it, put back, is one more raw row in the table.
 use native.Mathlib.Omega.{arith}
 use borrow.Author.Needs.{needs}
-use Rattle.rows.proofs.FormTables.{row-lent}
+use Rattle.storing.proofs.FormTables.{row-lent}
 use Rattle.fiveform.specs.Five.{fiveRow, fiveRows}
 use Rattle.fiveform.proofs.FiveLaws.{fiveRowLaws}
 use Rattle.rewriting.proofs.append_five.Statement.{statement}

@@ -1,9 +1,9 @@
 -- `reweigh` meets its contract: the weight is written behind the sign words of row k.
 use borrow.Author.Needs.{needs}
 use native.Mathlib.Omega.{arith}
-use Rattle.rows.proofs.Stores.{row-reweighed}
-use Rattle.rows.proofs.reweigh.Statement.{statement}
-use Rattle.rows.proofs.reweigh.Tie as tie
+use Rattle.storing.proofs.Stores.{row-reweighed}
+use Rattle.storing.proofs.reweigh.Statement.{statement}
+use Rattle.storing.proofs.reweigh.Tie as tie
 
 returns : tie.Need-returns
 returns c =

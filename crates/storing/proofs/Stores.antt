@@ -9,9 +9,9 @@ use lib.ListN.{length, getD, take, drop, set, replicate, getD-replicate, length-
 use lib.Seq.{sets-eq, set-getD, getD-drop, getD-take, paste, paste-suc, drop-drop, drop-paste, take-all, length-take-le}
 use Rattle.clause.specs.declared.Clause.{Clause}
 use Rattle.words.specs.Layout.{signsWord, weightWord, highWord}
 use Rattle.rows.specs.Raw.{rowWidth, highUnit, rawWords, rawAt, rawsIn, rowForm, Laid, Left, weighing, rawRow, signWordsIn, reweighed}
 use Rattle.rows.proofs.Flat.{rowLaws, length-rawsFrom, raw-at}
-use Rattle.rows.proofs.FormTables.{row-replaced}
+use Rattle.storing.proofs.FormTables.{row-replaced}
 
 -- ---- words copied one after another to place at: n of them, from s
 

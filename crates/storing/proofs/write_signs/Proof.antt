@@ -2,9 +2,9 @@
 use native.Mathlib.Omega.{arith}
 use lib.ListN.{length-set}
 use borrow.Author.Needs.{needs}
-use Rattle.rows.proofs.Stores.{signs-stored}
-use Rattle.rows.proofs.write_signs.Statement.{statement}
-use Rattle.rows.proofs.write_signs.Tie as tie
+use Rattle.storing.proofs.Stores.{signs-stored}
+use Rattle.storing.proofs.write_signs.Statement.{statement}
+use Rattle.storing.proofs.write_signs.Tie as tie
 
 returns : tie.Need-returns
 returns c =

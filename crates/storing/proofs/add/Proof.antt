@@ -1,9 +1,9 @@
 -- `add` looks for the clause's row: reweighed if there is one, else a new last row is written.
 use borrow.Author.Needs.{needs}
 use native.Mathlib.Omega.{arith}
-use Rattle.rows.proofs.Adding.{rows-fit, add-none, append-ready, appended, found-within, found-fits, sum-small, reweighed-as}
-use Rattle.rows.proofs.add.Statement.{statement}
-use Rattle.rows.proofs.add.Tie as tie
+use Rattle.storing.proofs.Adding.{rows-fit, add-none, append-ready, appended, found-within, found-fits, sum-small, reweighed-as}
+use Rattle.storing.proofs.add.Statement.{statement}
+use Rattle.storing.proofs.add.Tie as tie
 
 returns : tie.Need-returns
 returns c = add-none _ _ _ _ _ (c .before .before .pre) (c .if1 .taken)

@@ -4,10 +4,10 @@ use native.Mathlib.Omega.{arith}
 use mathlib.Core.Path.{_≡_, refl}
 use lib.ListN.{length, replicate, length-set}
 use lib.Seq.{paste, paste-zero}
 use Rattle.rows.specs.Raw.{rowWidth}
-use Rattle.rows.proofs.Stores.{copy-next, copy-end, zero-at}
-use Rattle.rows.proofs.clear.Statement.{statement}
-use Rattle.rows.proofs.clear.Tie as tie
+use Rattle.storing.proofs.Stores.{copy-next, copy-end, zero-at}
+use Rattle.storing.proofs.clear.Statement.{statement}
+use Rattle.storing.proofs.clear.Tie as tie
 
 abbrev Inv-loop : tie.InvT-loop
 Inv-loop t₀ at i₀ t i = (i ≤ rowWidth) × (length t ≡ length t₀) × (t ≡ paste t₀ at (replicate rowWidth 0) i)

@@ -1,11 +1,11 @@
 -- `append` meets its contract: what `write_row` leaves of the part lent to it, put back, is one more raw row in the table.
 use native.Mathlib.Omega.{arith}
 use borrow.Author.Needs.{needs}
 use Rattle.rows.specs.Raw.{rawRow, rowForm}
 use Rattle.rows.proofs.Flat.{rowLaws}
-use Rattle.rows.proofs.FormTables.{row-lent}
-use Rattle.rows.proofs.append.Statement.{statement}
-use Rattle.rows.proofs.append.Tie as tie
+use Rattle.storing.proofs.FormTables.{row-lent}
+use Rattle.storing.proofs.append.Statement.{statement}
+use Rattle.storing.proofs.append.Tie as tie
 
 returns : tie.Need-returns
 returns c =

@@ -7,14 +7,14 @@ use lib.ListN.{length, getD, drop, length-append}
 use borrow.Author.Tests.{eq-eqb, ne-eqb}
 use Rattle.clause.specs.declared.Clause.{Clause}
 use Rattle.clause.specs.Packed.{FitsBlocks}
 use Rattle.rows.specs.declared.Found.{Found}
 use Rattle.rows.specs.declared.Found.the-variants.{At, Missing}
 use Rattle.rows.specs.Raw.{rowWidth, maxWeight, noRaw, rawAt, rawsIn, Laid, Left, weightIn, rawRow, findFrom, reweighed}
-use Rattle.rows.specs.Adding.{addedAt, added, Addable}
 use Rattle.rows.proofs.Flat.{length-rawsFrom, raw-at}
-use Rattle.rows.proofs.Laying.{left-refl}
-use Rattle.rows.proofs.Changes.{length-reweighed}
 use Rattle.rows.proofs.Searching.{find-at}
+use Rattle.storing.specs.Adding.{addedAt, added, Addable}
+use Rattle.storing.proofs.Laying.{left-refl}
+use Rattle.storing.proofs.Changes.{length-reweighed}
 
 module _ (t : List ℕ) (base count : ℕ) (x : Clause) (w : ℕ) (a : Addable t base count x w) where
   pub rows-fit : base + rowWidth * count ≤ length t

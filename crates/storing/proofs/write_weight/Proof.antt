@@ -2,9 +2,9 @@
 use native.Mathlib.Omega.{arith}
 use lib.ListN.{length-set}
 use borrow.Author.Needs.{needs}
-use Rattle.rows.proofs.Stores.{weight-stored}
-use Rattle.rows.proofs.write_weight.Statement.{statement}
-use Rattle.rows.proofs.write_weight.Tie as tie
+use Rattle.storing.proofs.Stores.{weight-stored}
+use Rattle.storing.proofs.write_weight.Statement.{statement}
+use Rattle.storing.proofs.write_weight.Tie as tie
 
 slice-write-t-2 : tie.Need-slice-write-t-2
 slice-write-t-2 c = simp length-set (omega arith)

@@ -6,10 +6,10 @@ use mathlib.Core.Path.{_≡_, refl, _∙_}
 use mathlib.Core.List.{List}
 use lib.ListN.{length, take, drop, length-set}
 use lib.Seq.{paste, paste-zero}
 use Rattle.rows.specs.Raw.{rowWidth}
-use Rattle.rows.proofs.Stores.{copy-next, copy-end, copy-read, behind-long, behind-at}
-use Rattle.rows.proofs.move_down.Statement.{statement}
-use Rattle.rows.proofs.move_down.Tie as tie
+use Rattle.storing.proofs.Stores.{copy-next, copy-end, copy-read, behind-long, behind-at}
+use Rattle.storing.proofs.move_down.Statement.{statement}
+use Rattle.storing.proofs.move_down.Tie as tie
 
 -- the words of the row behind
 abbrev behind : List ℕ → ℕ → List ℕ

@@ -2,9 +2,9 @@
 use Prim.Native.Nat.{_-_}
 use native.Mathlib.Omega.{arith}
 use mathlib.Core.Path.{_∙_}
-use Rattle.rows.proofs.Closing.{Closing, closing-start, closing-next, closing-end}
-use Rattle.rows.proofs.remove.Statement.{statement}
-use Rattle.rows.proofs.remove.Tie as tie
+use Rattle.storing.proofs.Closing.{Closing, closing-start, closing-next, closing-end}
+use Rattle.storing.proofs.remove.Statement.{statement}
+use Rattle.storing.proofs.remove.Tie as tie
 
 abbrev Inv-loop : tie.InvT-loop
 Inv-loop t₀ base count k j₀ at₀ t j at = Closing t₀ base count k t j at

@@ -1,8 +1,8 @@
 -- `write_row` meets its contract: the sign words written are those of x, and the weight is written behind them.
 use borrow.Author.Needs.{needs}
-use Rattle.rows.proofs.Stores.{row-stored}
-use Rattle.rows.proofs.write_row.Statement.{statement}
-use Rattle.rows.proofs.write_row.Tie as tie
+use Rattle.storing.proofs.Stores.{row-stored}
+use Rattle.storing.proofs.write_row.Statement.{statement}
+use Rattle.storing.proofs.write_row.Tie as tie
 
 returns : tie.Need-returns
 returns c =

@@ -4,11 +4,11 @@ use native.Mathlib.Omega.{arith}
 use mathlib.Core.Path.{_≡_, ap, _∙_}
 use mathlib.Core.List.{List, _++_}
 use lib.ListN.{length, take, drop, replicate, length-set}
 use Rattle.rows.specs.Raw.{rowWidth, noRaw, rowForm, rawsIn, Laid, Left, without}
 use Rattle.rows.proofs.Flat.{rowLaws, length-rawsFrom}
-use Rattle.rows.proofs.FormTables.{row-moved, last-cleared}
-use Rattle.rows.proofs.Laying.{left-read, left-refl, left-trans}
-use Rattle.rows.proofs.Changes.{without-moved, without-last}
+use Rattle.storing.proofs.FormTables.{row-moved, last-cleared}
+use Rattle.storing.proofs.Laying.{left-read, left-refl, left-trans}
+use Rattle.storing.proofs.Changes.{without-moved, without-last}
 
 -- rows up to place at are settled: without the row there, t has the rows that t₀ has without row k; row j is the next to move
 pub record Closing (t₀ : List ℕ) (base count k : ℕ) (t : List ℕ) (j at : ℕ) : Type 0 where
