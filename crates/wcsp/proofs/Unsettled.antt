@@ -150,4 +150,4 @@ huntOver ds rs s h =
 
 pub huntFrom : HuntFrom
 huntFrom ds rs rs′ s h e =
-    sym (lower-passed ds s rs′ (length ds - s) s (omega arith)) ∙ ap (pairFrom ds (length ds - s) s) e ∙ huntOver ds rs s h
+    sym (lower-passed ds s rs′ (length ds - s) s (omega arith)) ∙ ap (pairFrom ds (length ds - s) s) e ∙ huntOver ds rs s (omega (arith, h))

@@ -82,7 +82,7 @@ loop-again c =
     (λ w. elsewhere (g .t .now) (g .base) (g .count) (g .v) (g .skip) (g .from) (g .fulls) (turn .loop .i) (turn .loop .least) (omega arith) (turn .loop .inv)
     _ (w .1 .ensures .0) _ (w .2 .ensures .0) (w .3 .left))
     (λ w. absent (g .t .now) (g .base) (g .count) (g .v) (g .skip) (g .from) (g .fulls) (turn .loop .i) (turn .loop .least) (omega arith) (turn .loop .inv)
-    (omega arith) _ (c .before .sign-at .ensures) (w .left)))
+    (omega arith) _ (c .before .sign-at .ensures) (let l = w .left in omega (arith, l))))
     (c .if1 .came)
 
 returns-2 : tie.Need-returns-2 Inv-loop μ-loop
