@@ -1,5 +1,5 @@
 -- `hunt` meets its contract: the buckets that it has passed over have no pair, and only in the first of them can rows be passed over.
-use Prim.Native.Nat.{_+_, _-_, _≤_}
+use Prim.Native.Nat.{_-_, _≤_}
 use native.Mathlib.Omega.{arith}
 use borrow.Author.Needs.{needs}
 use Rattle.hunt.proofs.Climbing.{Reached, start, is-next, no-pair, nothing-left}
