@@ -44,7 +44,7 @@ struct Ending {
     lowest: u32,
 }
 
-// One step call: 9; done; 11; 12; else one step. The buckets that the hunt passes over number up to the pair's variable.
+// One step call: 9; done; 11; 12; else one step. Its hunt starts at variable 0, so it passes over as many buckets as the pair's variable says.
 pub fn step(t: &mut [u32]) -> StepAnswer
     ensures returned { λ r. ⌜ record { answer = r; table = now (t .exit) } ≡ stepCall (now (t .entry)) ⌝ }
 {
