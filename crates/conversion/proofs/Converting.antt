@@ -28,8 +28,8 @@ use Rattle.table.proofs.FormTables.{PassedIn, passed, length-sizes, length-rows
 use Rattle.table.proofs.FormFinishing.{laid-words, finished}
 use Rattle.table.proofs.Tested.{table-invalid-in}
 use Rattle.table.proofs.Own.{own-widens-in, own-wide-in, own-count-in, words-wide-in}
-use Rattle.conversion.specs.Calls.{ConvertReturned, convertCall}
 use Rattle.rewriting.proofs.Starting.{none-started}
+use Rattle.conversion.specs.Calls.{ConvertReturned, convertCall}
 use Rattle.conversion.proofs.Theorems.{of-good, light-above}
 
 -- what the call returns and leaves
