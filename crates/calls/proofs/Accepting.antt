@@ -18,8 +18,9 @@ use Rattle.wcsp.specs.Rebuild.{rebuilt}
 use Rattle.fields.specs.Entries.{FieldSizes, Entries}
 use Rattle.fields.proofs.Assigning.{assignment-of}
 use Rattle.input.specs.Instance.{instanceFault, sizesOf, entriesOf}
-use Rattle.table.specs.Layout.{capacityIn, capacity}
+use Rattle.table.specs.Raws.{standardForm}
 use Rattle.table.specs.Meaning.{ownRows}
+use Rattle.table.proofs.FormTables.{capacity-small}
 use Rattle.encoding.specs.Calls.{encodedRows, encodeCall}
 use Rattle.checker.specs.Replay.{replay}
 use Rattle.checker.specs.Calls.{claimHolds, judged, checkCall}
@@ -39,10 +40,6 @@ use Rattle.calls.proofs.Held.{held-assignment}
 use Rattle.calls.proofs.Upholding.{best-rows}
 use Rattle.calls.proofs.Going.{comes-held, comes-six, calls-come, encodedComes}
 use Rattle.calls.proofs.Driving.{drivesCalls, asked-in-place}
-
-capacity-small : (len n : ℕ) → capacity len n ≤ 4096
-unfolding capacityIn
-capacity-small len n = omega arith
 
 -- the best assignment with the empty row's weight is a claim that holds
 best-claim : (inst plan : List ℕ) (rs : List Row) → Best (sizesOf inst) (entriesOf inst) plan (emptyWeight (length (sizesOf inst)) rs)
@@ -73,7 +70,7 @@ module _ (inst ws : List ℕ) (rs : List Row) (accepted : instanceFault inst ≡
 
   module _ (work : List ℕ) (front : TakesFront inst work) where
     small : room ds work ≤ 4096
-    small = capacity-small (length work) (length ds)
+    small = capacity-small standardForm (length work) (length ds)
 
     -- the encoding has room, where the most rows have it
     encodes : length (encodedRows inst) ≤ room ds work → GoodEncoding inst work
@@ -124,7 +121,7 @@ derivationAccepted inst t calls e plain done work long =
     let a = coded-takes inst t c in
     let first = encoded-left inst t c in
     let m = reached inst t c calls plain in
-    let most = reaches-most (a .sizes) (a .entries) (capacity-small (length t) (length (sizesOf inst))) (first .fits) (m .reaches) in
+    let most = reaches-most (a .sizes) (a .entries) (capacity-small standardForm (length t) (length (sizesOf inst))) (first .fits) (m .reaches) in
     convertedAccepted inst (started inst t) calls (encodedComes inst t e) (moved-held a first m .valid) done work (rw long (a .room)) (rw long most)
 
 -- ---- the driver

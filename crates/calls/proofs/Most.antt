@@ -17,9 +17,10 @@ use Rattle.fields.specs.Entries.{FieldSizes, Entries}
 use Rattle.stepping.specs.Step.{refusing, pairWord}
 use Rattle.checker.specs.Replay.{replayOn, replayWord, replayNext, replay}
 use Rattle.checker.proofs.Replaying.{Left, allowed-room}
+use Rattle.stepping.proofs.Named.{next-named}
 use Rattle.calls.specs.Calls.{Derives}
 use Rattle.calls.specs.Derivation.{mostRows}
-use Rattle.calls.proofs.Reaching.{Reaches, still, onward, next-left, next-named, next-found, word-replayed}
+use Rattle.calls.proofs.Reaching.{Reaches, still, onward, next-left, next-found, word-replayed}
 
 pub most-first : (ds : List ℕ) (rs : List Row) (ws : List ℕ) → length rs ≤ mostRows ds rs ws
 unfolding mostRows
@@ -31,7 +32,7 @@ module _ {ds : List ℕ} {es : List Entry} {cap : ℕ} (s : FieldSizes ds) (n : 
   most-next : (rs : List Row) (pr : Pair) (ws : List ℕ) → nextPair ds rs ≡ some pr → length rs ≤ cap
       → mostRows ds rs (pairWord pr ∷ ws) ≡ max (length rs) (mostRows ds (resolve ds pr rs) ws)
   unfolding mostRows
-  most-next rs pr ws e fits = let rest = ap (λ p. mostRows ds (resolve ds p rs) ws) (next-named s n small rs pr e fits .1) in omega (arith, rest)
+  most-next rs pr ws e fits = let rest = ap (λ p. mostRows ds (resolve ds p rs) ws) (next-named ds (s .most) rs (omega (arith, fits, small)) pr e .1) in omega (arith, rest)
 
   pub derives-reaches : {rs rs′ : List Row} {ws : List ℕ} → Derives ds rs ws rs′ → mostRows ds rs ws ≤ cap → Reaches ds cap rs ws rs′
   derives-reaches Derives.stop m = still

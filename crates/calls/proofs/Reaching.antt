@@ -13,8 +13,8 @@ use Rattle.wcsp.specs.Resolve.{Pair, nextPair, resolve, Steps}
 use Rattle.wcsp.proofs.NextPair.{next-permitted}
 use Rattle.words.specs.Layout.{kindOf}
 use Rattle.fields.specs.Entries.{FieldSizes, Entries}
-use Rattle.stepping.specs.Step.{stepsTo, pairWord, wordPair}
-use Rattle.resolution.proofs.Climbing as climbing
+use Rattle.stepping.specs.Step.{stepsTo, pairWord}
+use Rattle.stepping.proofs.Named.{next-named}
 use Rattle.checker.specs.Replay.{permittedPair, namedPair, replayOn, replayWord, replayNext, replay}
 use Rattle.checker.proofs.Kept.{Keeps, step-keeps}
 use Rattle.checker.proofs.Replaying.{Left, allowed-room, permitted-passes}
@@ -62,15 +62,11 @@ module _ {ds : List ℕ} {es : List Entry} {cap : ℕ} where
   reaches-left l (onward pr e f a) = reaches-left (next-left pr l e f) a
 
   module _ (s : FieldSizes ds) (n : Entries ds 0 es) (small : cap ≤ 4096) where
-    -- the step word of the next pair is of its kind, and names it
-    pub next-named : (rs : List Row) (pr : Pair) → nextPair ds rs ≡ some pr → length rs ≤ cap → (kindOf (pairWord pr) ≡ 7) × (wordPair (pairWord pr) ≡ pr)
-    next-named rs pr e fits = climbing.next-named ds (s .most) rs (omega (arith, fits, small)) pr e
-
-    -- so it is the pair that a replay finds
+    -- the pair that its word names is the one that a replay finds
     pub next-found : (rs : List Row) (pr : Pair) → nextPair ds rs ≡ some pr → length rs ≤ cap → namedPair ds rs (pairWord pr) ≡ some pr
     unfolding namedPair
     next-found rs pr e fits =
-        let (k, named) = next-named rs pr e fits in
+        let (k, named) = next-named ds (s .most) rs (omega (arith, fits, small)) pr e in
         rw (eq-eqb (kindOf (pairWord pr)) 7 k) (ap (permittedPair ds rs) named ∙ permitted-passes ds rs pr (next-permitted ds rs pr e))
 
     -- and that is replayed

@@ -16,7 +16,7 @@ unfoldable pub foundOf : Option ℕ → Found
 foundOf none = Missing
 foundOf (some k) = At k
 
--- from bucket v on
+-- of a hunt from bucket v on: how many buckets it passed over, and the pair's rows
 unfoldable pub huntedOf : ℕ → Option Pair → Hunted
 huntedOf v none = Nothing
 huntedOf v (some pr) = Next (pr .variable - v) (pr .first) (pr .second)

@@ -1,5 +1,5 @@
 -- Along a run the words name the lowest unsettled variable, which never falls. By induction on the steps that the run may still make.
-use Prim.Native.Nat.{ℕ, zero, suc, _≤_, _<_, min}
+use Prim.Native.Nat.{ℕ, zero, suc, _≤_, min}
 use native.Mathlib.Omega.{arith}
 use mathlib.Core.Path.{_≡_, refl, sym, ap, _∙_}
 use mathlib.Core.Bool.{true}
@@ -11,15 +11,16 @@ use Rattle.wcsp.specs.Resolve.{Pair, nextPair, resolve}
 use Rattle.wcsp.proofs.NextPair.{next-permitted}
 use Rattle.wcsp.proofs.Validity.{stepValid}
 use Rattle.wcsp.proofs.Unsettled.{onIt, neverFalls}
-use Rattle.words.specs.Layout.{kindOf}
-use Rattle.words.proofs.Reading.{read-step}
-use Rattle.words.proofs.Inverse.{step-kind}
-use Rattle.table.specs.Layout.{capacityIn}
-use Rattle.table.specs.Meaning.{tableSizes, ownRows, capacityOf}
+use Rattle.fields.specs.Limits.{maxVariables}
+use Rattle.table.specs.Raws.{standardForm}
+use Rattle.table.specs.Layout.{maxRows}
+use Rattle.table.specs.Meaning.{variablesOf, tableSizes, ownRows, capacityOf}
 use Rattle.table.specs.Valid.{validTable}
+use Rattle.table.proofs.FormTables.{capacity-small}
 use Rattle.table.proofs.Own.{validIsCanonical}
 use Rattle.table.proofs.Finishing.{valid-variables}
-use Rattle.stepping.specs.Step.{Stepping, refusing, stepsTo, allowed, pairWord, wordPair}
+use Rattle.stepping.specs.Step.{Stepping, refusing, stepsTo, allowed, pairWord}
+use Rattle.stepping.proofs.Named.{next-named}
 use Rattle.stepping.proofs.Verdicts.{Verdict, refused, made, verdict}
 use Rattle.resolution.specs.declared.Outcome.the-variants.{Done, Refused}
 use Rattle.resolution.specs.Step.{oneStep}
@@ -27,25 +28,13 @@ use Rattle.resolution.specs.Run.{Ran, after, atLimit, runRows}
 use Rattle.resolution.specs.Climbing.{Climbs, RunsClimb}
 use Rattle.resolution.proofs.Stepped.{no-step, next-step}
 
--- the step word of the next pair is of its kind, and names it
-pub next-named : (ds : List ℕ) → length ds ≤ 12 → (rs : List Row) → length rs ≤ 4096 → (pr : Pair) → nextPair ds rs ≡ some pr
-    → (kindOf (pairWord pr) ≡ 7) × (wordPair (pairWord pr) ≡ pr)
-next-named ds few rs fits pr e =
-    let m = next-permitted ds rs pr e in
-    let v : pr .variable < 16 = omega (arith, m .known) in
-    let j : pr .second < 4096 = omega (arith, m .inTable) in
-    let i : pr .first < 4096 = omega (arith, m .ordered) in
-    let (k, a, b, c) =
-    step-kind (pairWord pr) (pr .variable) (pr .first) (pr .second) (read-step (pr .variable) (pr .first) (pr .second) v i j) in
-    (k, λ x. record { variable = a x; first = b x; second = c x })
-
 -- what a run makes after the words before it
 record Climbing (ds : List ℕ) (rs : List Row) (before : List ℕ) (ran : Ran) : Type 0 where
   words : List ℕ
   told : ran .made ≡ before ++ words
   climbs : Climbs ds rs words (ran .rows)
 
-module _ (ds : List ℕ) (few : length ds ≤ 12) (cap : ℕ) (small : cap ≤ 4096) where
+module _ (ds : List ℕ) (few : length ds ≤ maxVariables) (cap : ℕ) (small : cap ≤ maxRows) where
   run-climbs : (k : ℕ) (rs : List Row) (before : List ℕ) → ValidRows ds rs → length rs ≤ cap → Climbing ds rs before (runRows ds cap k rs before)
   unfolding runRows after atLimit
   run-climbs zero rs before v f = go (nextPair ds rs)
@@ -81,17 +70,12 @@ module _ (ds : List ℕ) (few : length ds ≤ 12) (cap : ℕ) (small : cap ≤ 4
       go none e ih = rw (no-step ds cap rs e) (record { words = []; told = sym (append-nil before); climbs = Climbs.stop })
       go (some pr) e ih = rw (next-step ds cap rs pr e) (judged pr e ih (allowed cap pr (resolve ds pr rs)) (verdict cap pr (resolve ds pr rs)))
 
--- a table's rows and its capacity
-module _ (t : List ℕ) (v : validTable t ≡ true) where
-  small : capacityOf t ≤ 4096
-  unfolding capacityIn
-  small = omega arith
-
-  room : length (ownRows t) ≤ capacityOf t
-  room = let n = valid-variables t v in rw n at (validIsCanonical t v .holdable .fits)
+-- a table's rows fit in it
+room : (t : List ℕ) → validTable t ≡ true → length (ownRows t) ≤ capacityOf t
+room t v = let n = valid-variables t v in rw n at (validIsCanonical t v .holdable .fits)
 
 pub runsClimb : RunsClimb
 runsClimb t limit slice v =
     let h = validIsCanonical t v .holdable in
-    let c = run-climbs (tableSizes t) (h .few) (capacityOf t) (small t v) (min limit (length slice)) (ownRows t) [] (h .valid) (room t v) in
+    let c = run-climbs (tableSizes t) (h .few) (capacityOf t) (capacity-small standardForm (length t) (variablesOf t)) (min limit (length slice)) (ownRows t) [] (h .valid) (room t v) in
     rw (c .told) (c .climbs)

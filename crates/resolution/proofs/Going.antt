@@ -20,10 +20,12 @@ use Rattle.clause.specs.Packed.{FitsBlocks}
 use Rattle.rows.specs.Raw.{rowWidth}
 use Rattle.table.specs.declared.Shape.{Shape}
 use Rattle.table.specs.Layout.{tableWords}
-use Rattle.table.specs.Meaning.{variablesOf, rowCount, tableSizes, tableRows, domains, capacityOf}
+use Rattle.table.specs.Meaning.{variablesOf, rowCount, tableSizes, tableRows, ownRows, domains, capacityOf}
 use Rattle.table.specs.Valid.{validTable}
 use Rattle.table.specs.Check.{fullClause, shapeOf}
 use Rattle.table.proofs.Canonical.{twelveIsCanonical}
+use Rattle.table.proofs.Finishing.{valid-variables}
+use Rattle.table.proofs.Own.{own-next}
 use Rattle.table.proofs.Reading.{ready, find-room}
 use Rattle.hunt.specs.declared.Hunted.{Hunted}
 use Rattle.hunt.specs.declared.Hunted.the-variants.{Next, Nothing}
@@ -40,7 +42,7 @@ use Rattle.resolution.specs.Calls.{RunReturned, runReturns, runCall}
 use Rattle.resolution.specs.Twelve.{runTwelve, resumed}
 use Rattle.resolution.proofs.Stepped.{no-step, next-step}
 use Rattle.resolution.proofs.Own.{run-own}
-use Rattle.resolution.proofs.Single.{fulls-packed, Hunts, lowestIn, hunt-none, hunt-some, permitted, cleared-start}
+use Rattle.resolution.proofs.Single.{fulls-packed, Hunts, lowestIn, ownLowest, hunt-none, hunt-some, permitted, cleared-start}
 
 -- ---- a run's next turn
 
@@ -123,8 +125,11 @@ module _ (rs : List Row) (i j : ℕ) {first second : ℕ} (e : first ≡ getD rs
 
 module _ (t : List ℕ) (v : validTable t ≡ true) (pr : Pair) (next : nextPair (domains t) (tableRows t) ≡ some pr) where
   -- the step is on the lowest unsettled variable, and that does not fall
-  pub on-lowest : pr .variable ≡ lowestIn t
+  on-lowest : pr .variable ≡ lowestIn t
   on-lowest = onIt (domains t) (tableRows t) pr next
+
+  pub on-own : pr .variable ≡ ownLowest t
+  on-own = onIt (tableSizes t) (ownRows t) pr (sym (own-next t v) ∙ next)
 
   pub still-low : pr .variable ≤ lowestUnsettled (domains t) (resolve (domains t) pr (tableRows t))
   still-low = omega (arith, on-lowest, neverFalls (domains t) (tableRows t) pr (ready t v .valid) next)
@@ -179,23 +184,27 @@ module _ {t₀ : List ℕ} {most : ℕ} {slice₀ t slice : List ℕ} {count low
   going-canonical =
       twelveIsCanonical t (g .valid) .words ∙ ap₂ (λ n s. tableWords n s (tableRows t)) (g .long) (g .sizes)
 
+  -- the number of variables is a small one
+  pub few-here : {n : ℕ} → n ≡ variablesOf t₀ → n ≤ 12
+  few-here h = omega (arith, h, g .variables, valid-variables t (g .valid), twelveIsCanonical t (g .valid) .holdable .few)
+
   -- what the run must give back
   abbrev pub Gives : Ending → List ℕ → List ℕ → Type 0
   Gives r t′ slice′ =
-      _≡_ {A = RunReturned} (record { answer = r .answer; table = t′; slice = slice′ }) (runReturns 12 t₀ slice₀ whole) × (r .lowest ≡ lowestIn t′)
+      _≡_ {A = RunReturned} (record { answer = r .answer; table = t′; slice = slice′ }) (runReturns 12 t₀ slice₀ whole) × (r .lowest ≡ ownLowest t′)
 
   -- a run that ends so in this table, with this value of its lowest unsettled variable
   abbrev pub ending : Outcome → ℕ → List ℕ → Ending
   ending e u t′ = record { answer = record { outcome = e; steps = made; bound = emptyWeight 12 (tableRows t′) }; lowest = u }
 
   gives : (e : Outcome) (r : Ending) (t′ : List ℕ) → whole ≡ record { outcome = e; rows = tableRows t; made = g .words }
-      → (u : ℕ) → r ≡ ending e u t → t′ ≡ t → u ≡ lowestIn t → Gives r t′ slice
+      → (u : ℕ) → r ≡ ending e u t → t′ ≡ t → u ≡ ownLowest t → Gives r t′ slice
   gives e r t′ w u a b l =
       let s = g .steps in
       let c : t′ ≡ withRows t₀ (tableRows t) = b ∙ going-canonical in
       let d : slice ≡ g .words ++ drop (length (g .words)) slice₀ = rw s (g .sliced) in
       let f : r .answer ≡ record { outcome = e; steps = length (g .words); bound = emptyWeight 12 (tableRows t) } = rw s (ap (λ x. x .answer) a) in
-      (rw w (λ i. record { answer = f i; table = c i; slice = d i }), ap (λ x. x .lowest) a ∙ l ∙ ap lowestIn (sym b))
+      (rw w (λ i. record { answer = f i; table = c i; slice = d i }), ap (λ x. x .lowest) a ∙ l ∙ ap ownLowest (sym b))
 
   -- what the calls of a turn ask for, with the front and the full signs of the first table
   module _ {base : ℕ} (b : base ≡ variablesOf t₀ + 2) {fulls : Clause} (f : fulls ≡ fullClause (domains t₀)) where
@@ -240,17 +249,17 @@ module _ {t₀ : List ℕ} {most : ℕ} {slice₀ t slice : List ℕ} {count low
       one-next {passed} {i} {j} q v e =
           rw e (hunt-some t (g .valid) base count base-here (g .counted) fulls fulls-here lowest skip from (g .low) (g .cleared) found hunts-here passed i j q)
 
-  pub gives-done : nextPair (domains t) (tableRows t) ≡ none → (r : Ending) → r ≡ ending Outcome.Done 12 t → Gives r t slice
-  gives-done e r a =
-      gives Outcome.Done r t (g .goes ∙ run-done (domains t) (capacityOf t) (most - made) (tableRows t) (g .words) e) 12 a refl
-      (omega (arith, lowest-none (domains t) (tableRows t) e, ready t (g .valid) .twelve))
+  pub gives-done : nextPair (domains t) (tableRows t) ≡ none → (n : ℕ) → n ≡ variablesOf t₀ → (r : Ending) → r ≡ ending Outcome.Done n t → Gives r t slice
+  gives-done e n h r a =
+      gives Outcome.Done r t (g .goes ∙ run-done (domains t) (capacityOf t) (most - made) (tableRows t) (g .words) e) n a refl
+      (omega (arith, h, g .variables, valid-variables t (g .valid), lowest-none (tableSizes t) (ownRows t) (sym (own-next t (g .valid)) ∙ e)))
 
   module _ (pr : Pair) (next : nextPair (domains t) (tableRows t) ≡ some pr) where
     pub gives-paused : made ≡ most → (r : Ending) → r ≡ ending Outcome.Paused (pr .variable) t → Gives r t slice
     gives-paused h r a =
         let z : most - made ≡ 0 = omega arith in
         gives Outcome.Paused r t (g .goes ∙ run-paused (domains t) (capacityOf t) (most - made) (tableRows t) (g .words) pr next z)
-        (pr .variable) a refl (on-lowest t (g .valid) pr next)
+        (pr .variable) a refl (on-own t (g .valid) pr next)
 
     module _ (h : made < most) where
       one-left : most - made ≡ suc (most - (made + 1))
@@ -263,7 +272,7 @@ module _ {t₀ : List ℕ} {most : ℕ} {slice₀ t slice : List ℕ} {count low
           gives (Outcome.Refused k) r t′
           (g .goes ∙ run-stopped (domains t) (capacityOf t) (most - made) (tableRows t) (g .words) (most - (made + 1)) one-left k
           (next-step (domains t) (capacityOf t) (tableRows t) pr next ∙ ap some a))
-          (pr .variable) (p ∙ ap₂ (λ m u. ending (Outcome.Refused m) (pr .variable) u) q b) b (on-lowest t (g .valid) pr next)
+          (pr .variable) (p ∙ ap₂ (λ m u. ending (Outcome.Refused m) (pr .variable) u) q b) b (on-own t (g .valid) pr next)
 
       pub going-on : (now : ℕ) (t′ : List ℕ) → Advances t pr now t′ → (w : ℕ) → w ≡ pairWord pr
           → (from′ : ℕ) → from′ ≡ resumed (tableRows t) (pr .first) (pr .second)

@@ -16,7 +16,7 @@ use Rattle.clause.specs.Packed.{FitsBlocks, FullSigns}
 use Rattle.rows.specs.Raw.{rowWidth}
 use Rattle.table.specs.declared.Shape.{Shape}
 use Rattle.table.specs.Layout.{capacityIn}
-use Rattle.table.specs.Meaning.{tableRowsIn, variablesOf, rowCount, rowsFrom, tableRows, domains, capacityOf}
+use Rattle.table.specs.Meaning.{tableRowsIn, variablesOf, rowCount, rowsFrom, tableSizes, tableRows, ownRows, domains, capacityOf}
 use Rattle.table.specs.Valid.{validTable}
 use Rattle.table.specs.Check.{fullClause, shapeOf}
 use Rattle.table.proofs.Canonical.{passed}
@@ -67,9 +67,12 @@ Hunts t base count fulls s skip from found =
     (ds : List ℕ) → FullSigns fulls ds → ValidRows ds (rowsFrom count (drop base t)) → Cleared ds s skip from (rowsFrom count (drop base t))
     → found ≡ huntedOf s (pairFrom ds (length ds - s) s (rowsFrom count (drop base t)))
 
--- the lowest unsettled variable of a table's rows, of twelve signs
+-- the lowest unsettled variable of a table's rows of twelve signs, which the hunt goes by, and of its own: they differ where no pair is left
 abbrev pub lowestIn : List ℕ → ℕ
 lowestIn t = lowestUnsettled (domains t) (tableRows t)
+
+abbrev pub ownLowest : List ℕ → ℕ
+ownLowest t = lowestUnsettled (tableSizes t) (ownRows t)
 
 module _ (t : List ℕ) (v : validTable t ≡ true) (base count : ℕ) (b : base ≡ variablesOf t + 2) (n : count ≡ rowCount t) (fulls : Clause)
     (f : fulls ≡ fullClause (domains t)) where

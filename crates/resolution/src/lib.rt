@@ -6,7 +6,7 @@ ghost use lib.ListN.{length};
 ghost use Rattle.wcsp.specs.Row.{emptyWeight};
 ghost use Rattle.wcsp.specs.Unsettled.{lowestUnsettled};
 ghost use Rattle.fields.specs.Limits.{maxVariables};
-ghost use Rattle.table.specs.Meaning.{variablesOf, rowCount, tableRows, domains};
+ghost use Rattle.table.specs.Meaning.{variablesOf, rowCount, tableSizes, tableRows, ownRows};
 ghost use Rattle.table.specs.Valid.{validTable};
 ghost use Rattle.table.specs.Check.{shapeOf};
 ghost use Rattle.stepping.specs.declared.Advanced.{Advanced};
@@ -38,7 +38,7 @@ pub struct RunAnswer {
     pub bound: u64,
 }
 
-// What a run on a valid table comes to: its answer, and the last value of its lowest unsettled variable, 12 where no pair is left.
+// What a run on a valid table comes to: its answer, and the last value of its lowest unsettled variable.
 struct Ending {
     answer: RunAnswer,
     lowest: u32,
@@ -110,7 +110,7 @@ fn resume(t: &[u32], base: usize, i: usize, j: usize) -> usize
 // Up to `most` steps on a valid table. The hunt goes on at the lowest unsettled variable, and there at the first row of the last step.
 fn run_valid(t: &mut [u32], shape: Shape, most: usize, slice: &mut [u32]) -> Ending
     requires { ⌜ (validTable (now t) ≡ true) × (shape ≡ shapeOf (now t)) × (most ≤ length (now slice)) ⌝ }
-    ensures { λ r. ⌜ (record { answer = r .answer; table = now (t .exit); slice = now (slice .exit) } ≡ runTwelve (now (t .entry)) most (now (slice .entry))) × (r .lowest ≡ lowestUnsettled (domains (now (t .exit))) (tableRows (now (t .exit)))) ⌝ }
+    ensures { λ r. ⌜ (record { answer = r .answer; table = now (t .exit); slice = now (slice .exit) } ≡ runTwelve (now (t .entry)) most (now (slice .entry))) × (r .lowest ≡ lowestUnsettled (tableSizes (now (t .exit))) (ownRows (now (t .exit)))) ⌝ }
 {
     let n = shape.variables;
     let fulls = shape.fulls;
@@ -123,7 +123,7 @@ fn run_valid(t: &mut [u32], shape: Shape, most: usize, slice: &mut [u32]) -> End
     loop {
         let found = hunt::hunt(t, base, count, lowest, skip, from, fulls);
         let Hunted::Next(passed, i, j) = found else {
-            return ended(t, base, count, Outcome::Done, made, 12);
+            return ended(t, base, count, Outcome::Done, made, n as u32);
         };
         lowest += passed;
         if made == most {

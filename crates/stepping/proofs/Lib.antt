@@ -1,5 +1,6 @@
 -- The laws of this crate that belong to no one function.
 pub mod Verdicts
+pub mod Named
 pub mod Places
 pub mod Writes
 pub mod Agreement

@@ -23,7 +23,7 @@ use Rattle.fields.proofs.Padding.{padded-length, sizes-padded}
 use Rattle.rows.specs.Form.{Form, flatIn, rawsFromIn}
 use Rattle.rows.proofs.FormRows.{FormLaws, length-flat, flat-split, rawsFrom-flat}
 use Rattle.table.specs.Form.{TableForm}
-use Rattle.table.specs.Layout.{rowsAt, capacityIn, tableWordsIn}
+use Rattle.table.specs.Layout.{maxRows, rowsAt, capacityIn, tableWordsIn}
 use Rattle.table.specs.Meaning.{variablesOf, tableSizes, domains, rowCount, rowsFromIn, tableRowsIn}
 use Rattle.table.specs.Valid.{isCount, validFront, withinCapacity, rowsInRange, noTwoEqual, zeroPast, rowsValidIn, distinctRows, allZero, validTableIn}
 use Rattle.table.specs.Twelve.{TwelveHoldableIn, TwelveIsCanonicalIn, TwelveWrittenIn}
@@ -34,6 +34,11 @@ use Rattle.table.proofs.TableLaws.{TableLaws}
 use Rattle.table.proofs.FormRows.{length-rowsFrom, rows-raws, carried-rowsFrom, rows-made, rows-valid, rows-pass}
 
 -- as many rows as the capacity have room
+-- no table takes more rows, however long
+pub capacity-small : (f : TableForm) (len n : ℕ) → capacityIn f len n ≤ maxRows
+unfolding capacityIn
+capacity-small f len n = omega arith
+
 pub room-rows : (f : TableForm) (len n k : ℕ) → rowsAt n ≤ len → k ≤ capacityIn f len n → rowsAt n + f .rows .width * k ≤ len
 unfolding capacityIn
 room-rows f len n k h l =

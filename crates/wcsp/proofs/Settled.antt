@@ -1,5 +1,5 @@
--- What a hunt may remember over a step: variables below the step's own that had no pair have none still, since the step takes only rows
--- away from them. A candidate needs two rows of one bucket, and every conclusion's bucket is at least the step's variable.
+-- What a hunt may remember over a step: variables below the step's own that had no pair have none still, since the step leaves their rows as
+-- they are. A candidate needs two rows of one bucket, and every conclusion's bucket is at least the step's variable.
 use Prim.Native.Nat.{ℕ, zero, suc, _-_, _<_, _≤_}
 use native.Mathlib.Omega.{arith}
 use mathlib.Core.Path.{_≡_, refl}

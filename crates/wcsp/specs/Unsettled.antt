@@ -34,8 +34,8 @@ LowestIs = (ds : List ℕ) (rs : List Row) (s : ℕ) → (s ≤ lowestUnsettled 
 abbrev pub OnIt : Type 0
 OnIt = (ds : List ℕ) (rs : List Row) (pr : Pair) → nextPair ds rs ≡ some pr → pr .variable ≡ lowestUnsettled ds rs
 
--- no step lowers it. Proof idea: the step takes rows from the buckets below it and adds none there, for a conclusion's lowest variable is
--- no lower than the pair's.
+-- no step lowers it. Proof idea: the step leaves the rows of lower buckets as they are, for both its rows are of its own bucket, and a
+-- conclusion's lowest variable is no lower.
 abbrev pub NeverFalls : Type 0
 NeverFalls = (ds : List ℕ) (rs : List Row) (pr : Pair) → ValidRows ds rs → nextPair ds rs ≡ some pr
     → lowestUnsettled ds rs ≤ lowestUnsettled ds (resolve ds pr rs)

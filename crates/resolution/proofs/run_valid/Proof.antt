@@ -11,7 +11,7 @@ use Rattle.table.specs.Meaning.{variablesOf, rowCount, tableRows, domains}
 use Rattle.table.specs.Check.{fullClause}
 use Rattle.stepping.proofs.Answers.{advance-made, advance-refused}
 use Rattle.resolution.proofs.Single.{few-variables, shape-front, shape-count, shape-fulls, permitted, Numbers, numbers}
-use Rattle.resolution.proofs.Going.{Going, going-start, hunt-asks, ended-asks, refused-asks, shaped, none-left, one-next, gives-done, gives-paused, gives-refused, going-on}
+use Rattle.resolution.proofs.Going.{Going, going-start, few-here, hunt-asks, ended-asks, refused-asks, shaped, none-left, one-next, gives-done, gives-paused, gives-refused, going-on}
 use Rattle.resolution.proofs.run_valid.Statement.{statement}
 use Rattle.resolution.proofs.run_valid.Tie as tie
 
@@ -61,6 +61,9 @@ enum-known-found c = search needs
 enum-told : tie.Need-enum-told Inv-loop μ-loop
 enum-told c = search needs
 
+cast-ended : tie.Need-cast-ended Inv-loop μ-loop
+cast-ended c = let i = c .before .before .before .before .before .loop .inv in let h = few-here (i .0) (i .2) in omega (arith, h)
+
 ended-requires : tie.Need-ended-requires Inv-loop μ-loop
 ended-requires c κs = let i = c .before .before .before .before .before .loop .inv in ended-asks (i .0) (i .1) (i .3)
 
@@ -74,7 +77,7 @@ returns : tie.Need-returns Inv-loop μ-loop
 returns c =
     let h = c .before .before .before .before in
     let i = h .before .before .loop .inv in
-    gives-done (i .0) (none-left (i .0) (i .1) (i .3) (h .hunt .ensures) (omega arith) (c .before .before .enum-told .given .1)) _ (c .ended .ensures)
+    gives-done (i .0) (none-left (i .0) (i .1) (i .3) (h .hunt .ensures) (omega arith) (c .before .before .enum-told .given .1)) _ (omega (arith, i .2)) _ (c .ended .ensures)
 
 -- the value stays below twelve
 add-lowest : tie.Need-add-lowest Inv-loop μ-loop
@@ -208,6 +211,7 @@ run-valid-spec =
     hunt-requires
     enum-known-found
     enum-told
+    cast-ended
     ended-requires
     same-length
     same-length-2
