@@ -3,6 +3,7 @@
 
 import random
 import sys
+from itertools import islice, product
 from pathlib import Path
 from typing import NamedTuple
 
@@ -74,6 +75,27 @@ def settled_sheet(rows):
     places += [[(0, 0)], [(0, 0)] * 2] + [[(0, 0)] * 8] * 4
     beside = [([(6, 0), (7, k // 512), (8, k // 64 % 8), (9, k // 8 % 8), (10, k % 8)], 1) for k in range(rows)]
     return fields.sheet(places, single_costs(rng, core) + beside)
+
+
+# Of twelve variables of eight values each, the one that is resolved where others below it are settled.
+RESOLVED = 8
+
+
+def settled_below_sheet(rows, stations):
+    """One variable to be resolved, and in the buckets of so many variables below it, as many in each, rows that go with no
+    other. All lies in one place, so that travel is free."""
+    rng = random.Random("settled below")
+    resolved = [([(RESOLVED, value)], rng.randint(1, 300)) for value in range(8)]
+    resolved += [([(RESOLVED, value), (RESOLVED + 1, other)], rng.randint(1, 100)) for value in range(8) for other in range(8)]
+    below = [entry for variable in range(stations) for entry in leaving_out(variable, rows // stations)]
+    return fields.sheet([[(0, 0)] * 8] * 12, resolved + below)
+
+
+def leaving_out(variable, count):
+    """So many entries whose rows leave out the same value of their lowest variable. They differ in up to four variables above
+    it, but for the one to be resolved: so hunt and look-ups tell each of them apart by one word, whatever its bucket is."""
+    others = [other for other in range(variable + 1, 12) if other != RESOLVED][-4:]
+    return [([(variable, 0), *zip(others, values)], 1) for values in islice(product(range(8), repeat=len(others)), count)]
 
 
 def write_sheets(folder):

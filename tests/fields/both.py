@@ -79,6 +79,8 @@ class Both:
     def __init__(self):
         self.cases = 0
         self.numbers = set()
+        # Steps that were found to be on the lowest unsettled variable.
+        self.climbed = 0
         # The length of the slice that is lent for the answer's fields; None for as many as there are.
         self.answer_length = None
 
@@ -87,14 +89,18 @@ class Both:
         length = len(fields) if self.answer_length is None else self.answer_length
         return Slice(FIELD, [UNANSWERED] * length), fields[:length] + [UNANSWERED] * (length - len(fields))
 
+    def counted(self, number):
+        """Counts a call with the number that it answers."""
+        self.cases += 1
+        self.numbers.add(number)
+
     def agree(self, name, arguments, expected):
         """Makes the call by the proved library and compares. A plan call alone has no slice for its answer."""
         answer, fields = self.lent_answer(expected.fields)
         expected = expected._replace(fields=fields)
         lent = [passed(kind, value) for kind, value in arguments]
         number = call("gotalhim_" + name, lent + [answer] * (name != "plan"))
-        self.cases += 1
-        self.numbers.add(expected.number)
+        self.counted(expected.number)
         try:
             got = Answer(number, answer.content(), [each.content() for each in lent if isinstance(each, Slice)])
         except Different as overrun:

@@ -1,5 +1,5 @@
-"""Every small field through all calls: the encoding, each step, the whole run, the plan, its completion from any last values, and
-the checker.
+"""Every small field through all calls: the encoding, each step, the whole run, runs of a few steps, the plan, its completion from
+any last values, and the checker.
 
 Covered are all fields with costs from these sets, the entries in the order constant, single values, pairs of values:
 - one variable of 1 to 4 values: constant 0 or 1, values 0 to 4;
@@ -18,13 +18,13 @@ from math import prod
 from typing import NamedTuple
 
 from both import row_total
+from climbing import along, stepped_to_the_end
 from completions import completed
 from different import require
 from reference import fields
 from reference.answers import FORBIDDEN, GOOD
 from reference.clauses import full
 from reference.limits import FORBIDDEN_WEIGHT, ROW_WORDS
-from reference.steps import STEPPED
 
 
 class Costs(NamedTuple):
@@ -70,22 +70,13 @@ def most_rows(sizes):
     return prod(full(size) for size in sizes)
 
 
-def stepped_to_the_end(both, table):
-    """The derivation by single steps and the table after it."""
-    derivation = []
-    answer = both.step(table)
-    while answer.outcome == STEPPED:
-        derivation.append(answer.word)
-        answer = both.step(answer.table)
-    return derivation, answer.table
-
-
 def through_all_calls(both, sizes, entries, spare):
     instance = fields.instance(sizes, entries)
     length = fields.table_length(len(sizes), most_rows(sizes), spare)
     start = both.encode(instance, [5] * length).table
     derivation, table = stepped_to_the_end(both, start)
     ran = both.run(start, len(derivation) + 1, [4] * (len(derivation) + 1))
+    along(both, start, (derivation, table), ran)
     planned = both.plan(table, [8] * len(sizes))
     # In a slice that ends behind the rows, which takes less time.
     ended = table[:fields.table_length(len(sizes), row_total(table), spare)]

@@ -1,10 +1,17 @@
-"""Runs: their outcomes in the order in which they are tested, the step words and what a stopped run leaves."""
+"""Runs: their outcomes in the order in which they are tested, the step words, what a stopped run leaves, and the lowest
+unsettled variable on the way."""
 
+import random
 import unittest
 
-from reference import run_call, step_call, words
-from reference.fields import table, table_length
+from reference import encode, run_call, step_call, words
+from reference.fields import instance, table, table_length
 from reference.limits import MAX_WEIGHT
+from reference.resolution import Pair, lowest_unsettled, next_pair, resolve
+from reference.tables import Row, read_table
+
+from .support import random_field
+from .test_random_tables import random_table
 
 STEP = words.step(0, 0, 1)
 
@@ -83,3 +90,72 @@ class StoppedRuns(unittest.TestCase):
     def test_bad_table(self):
         source = [words.head(1), words.size(2)]
         self.assertEqual(run_call(source, 0, []), ("refused", 9, 0, 0, source, []))
+
+
+def with_lower_rows(rows, first, other):
+    """The rows, with another in place of each whose bucket is below `first`."""
+    return [other() if any(row.signs[:first]) else row for row in rows]
+
+
+def no_row(sizes):
+    return Row((0,) * len(sizes), 0)
+
+
+def lower_row(rng, sizes, first):
+    """Some row, valid or not, whose bucket is below `first`; it may go with others of its like."""
+    signs = [rng.randrange((1 << size) - 1) for size in sizes]
+    if not any(signs[:first]):
+        signs[rng.randrange(first)] = 1
+    return Row(tuple(signs), rng.randint(1, 9))
+
+
+class LowestUnsettled(unittest.TestCase):
+    def along(self, source, limit):
+        """The lowest unsettled variable before each step of a run and after the last, each hunted from variable 0 on."""
+        sizes, rows = read_table(source)
+        ran = run_call(source, limit, [7] * limit)
+        values = [lowest_unsettled(sizes, rows)]
+        for word in ran.derivation[:ran.steps]:
+            pair = Pair(*words.step_of(word))
+            self.assertEqual(pair.variable, values[-1])
+            self.same_hunts(sizes, rows, pair)
+            rows = resolve(sizes, rows, pair)
+            values.append(lowest_unsettled(sizes, rows))
+        self.assertEqual(rows, read_table(ran.table).rows)
+        self.assertEqual(values, sorted(values))
+        self.assertEqual(values[-1] == len(sizes), ran.outcome == "done")
+        self.same_hunts(sizes, rows, next_pair(sizes, rows))
+        return values
+
+    def same_hunts(self, sizes, rows, pair):
+        """A hunt from any variable up to the lowest unsettled one finds this pair, whatever rows of lower buckets there are."""
+        rng = random.Random(len(rows))
+        for first in range(lowest_unsettled(sizes, rows) + 1):
+            emptied = with_lower_rows(rows, first, lambda: no_row(sizes))
+            exchanged = with_lower_rows(rows, first, lambda: lower_row(rng, sizes, first))
+            for hunted in (rows, emptied, exchanged):
+                self.assertEqual(next_pair(sizes, hunted, first), pair)
+
+    def test_one_variable(self):
+        self.assertEqual(self.along(Runs.START, 100), [0, 0, 0, 1])
+        self.assertEqual(self.along(Runs.START, 2), [0, 0, 0])
+        self.assertEqual(self.along(Runs.END, 2), [1])
+
+    def test_settled_from_the_start(self):
+        # The rows of variable 0 go with none: their signs are nested, or the union is full at variable 1, which has one row.
+        source = table([3, 2, 3, 3], "1,1,0,0:1 3,0,0,0:1 2,2,0,0:1 0,1,0,0:1 0,0,1,0:1 0,0,2,0:1 0,0,0,1:1 0,0,0,6:2", 90)
+        self.assertEqual(self.along(source, 100), [2, 3, 4])
+
+    def test_no_bucket_is_skipped(self):
+        # Variable 1 has a pair only when the step on variable 0 has made its second row.
+        self.assertEqual(self.along(table([2, 2], "2,0:1 1,2:1 0,1:1", 40), 100), [0, 1, 2])
+
+    def test_random_tables(self):
+        rng = random.Random(6)
+        seen = [self.along(random_table(rng), 60) for _ in range(500)]
+        self.assertGreater(sum(values[0] > 0 for values in seen), 100)
+
+    def test_random_fields(self):
+        rng = random.Random(7)
+        seen = [self.along(encode(instance(*random_field(rng)), [0] * 1_000).table, 60) for _ in range(400)]
+        self.assertGreater(sum(len(set(values)) > 2 for values in seen), 60)

@@ -39,17 +39,23 @@ def buckets(sizes, rows):
     return members
 
 
-def next_pair(sizes, rows, settled=0):
+def next_pair(sizes, rows, lowest=0):
     """The next pair, or None if no pair is left.
 
-    The buckets below `settled` are passed over: the caller knows that they have no pair.
+    The buckets below `lowest` are passed over: the caller knows that they have no pair.
     """
     members = buckets(sizes, rows)
-    for variable in range(settled, len(sizes)):
+    for variable in range(lowest, len(sizes)):
         for first, second in combinations(members[variable], 2):
             if permitted(sizes, variable, rows[first].signs, rows[second].signs):
                 return Pair(variable, first, second)
     return None
+
+
+def lowest_unsettled(sizes, rows):
+    """The variable of the next pair, hunted from variable 0 on; the number of variables where no pair is left."""
+    pair = next_pair(sizes, rows)
+    return len(sizes) if pair is None else pair.variable
 
 
 def excluding(sizes, variable, clause, other):

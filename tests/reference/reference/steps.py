@@ -57,11 +57,14 @@ def run_call(table, limit, derivation):
 def run_rows(sizes, rows, most_rows, most_steps):
     """Outcome, number, rows left and step words of a run."""
     made = []
-    settled = 0
+    lowest = 0
     while True:
-        pair = next_pair(sizes, rows, settled)
+        pair = next_pair(sizes, rows, lowest)
         if pair is None:
             return DONE, GOOD, rows, made
+        # The lowest unsettled variable. Both rows have none below it, so neither have the conclusions: the lower buckets
+        # stay as they were, without a pair.
+        lowest = pair.variable
         if len(made) == most_steps:
             return PAUSED, GOOD, rows, made
         try:
@@ -69,6 +72,3 @@ def run_rows(sizes, rows, most_rows, most_steps):
         except Refused as refusal:
             return REFUSED, refusal.number, rows, made
         made.append(words.step(*pair))
-        # Both rows have no variable below this one, so neither have the conclusions: the lower buckets stay as
-        # they were, without a pair.
-        settled = pair.variable
