@@ -16,6 +16,9 @@ use std::time::Instant;
 use planning::{planned, Buffers, Calls, Planned, STEP_LIMIT};
 use unproved::Plain;
 
+// Bytes in front of both implementations, which move their code: see `PLACES` in figures.py.
+core::arch::global_asm!(concat!(".section .text.place,\"axR\",@progbits\n.skip ", env!("PLACE"), ",0x90\n.text"));
+
 /// How often a run is repeated to find its least time.
 const REPEATS: usize = 9;
 

@@ -10,7 +10,10 @@ from typing import NamedTuple
 BENCH = Path(__file__).resolve().parent
 ROOT = BENCH.parent
 BUILT = ROOT / "target" / "bench"
-DRIVER = BUILT / "driver"
+# Code lies at multiples of 16 bytes. A short loop that lies across a boundary of 64 bytes can take twice the time with the
+# same instructions, so times are taken with the code moved to each of these places, and the least is kept.
+PLACES = [0, 16, 32, 48]
+DRIVERS = [BUILT / f"driver-{place}" for place in PLACES]
 OUTCOMES = ["done", "paused", "refused"]
 
 
@@ -37,25 +40,27 @@ def proved_library():
 def build_driver(library):
     subprocess.run([BENCH / "plain" / "build"], check=True)
     plain = ["--extern", f"plain={ROOT / 'target' / 'plain' / 'libplain.rlib'}"]
-    build("driver.rs", DRIVER, plain + (["--cfg", "proved", *linked(library)] if library else []))
+    for place, driver in zip(PLACES, DRIVERS):
+        build("driver.rs", driver, plain + (["--cfg", "proved", *linked(library)] if library else []), PLACE=str(place))
 
 
 def linked(library):
     return ["-C", f"link-arg={library}"]
 
 
-def build(source, program, options):
+def build(source, program, options, **environment):
     BUILT.mkdir(parents=True, exist_ok=True)
-    subprocess.run(["rustc", "-O", "--edition", "2021", BENCH / source, *options, "-o", program], check=True)
+    subprocess.run(["rustc", "-O", "--edition", "2021", BENCH / source, *options, "-o", program], check=True,
+                   env=dict(os.environ, **environment))
 
 
-def driven(what, sheet):
-    done = subprocess.run([DRIVER, what, sheet], check=True, capture_output=True, text=True)
+def driven(driver, what, sheet):
+    done = subprocess.run([driver, what, sheet], check=True, capture_output=True, text=True)
     return [int(part) for part in done.stdout.split()]
 
 
 def shape_of(sheet):
-    number, outcome, steps, bound, cost, _first, most, _last = driven("shape", sheet)
+    number, outcome, steps, bound, cost, _first, most, _last = driven(DRIVERS[0], "shape", sheet)
     ended = "full" if number == 12 else OUTCOMES[outcome]
     return Shape(ended, steps, most, bound, cost)
 
@@ -64,7 +69,7 @@ def instructions(implementation, sheet, *more):
     """Instructions from the sheet's words to the plan, as valgrind counts them; 0 where it is not installed.
 
     For `run_plain` and `run_proved`, of a run of so many steps alone."""
-    return counted([DRIVER, implementation, sheet, *more], f"--toggle-collect=bench_{implementation}")
+    return counted([DRIVERS[0], implementation, sheet, *more], f"--toggle-collect=bench_{implementation}")
 
 
 def counted(command, *options, stdin=None):
@@ -77,7 +82,7 @@ def counted(command, *options, stdin=None):
 
 
 def figures_of(implementations, sheet):
-    """Instructions and least time of each implementation; the times are taken in one process."""
-    times = driven("times", sheet)
+    """Instructions and least time of each implementation; the times of a place are taken in one process."""
+    times = [min(taken) for taken in zip(*(driven(driver, "times", sheet) for driver in DRIVERS))]
     return [Figures(instructions(implementation, sheet), nanoseconds)
             for implementation, nanoseconds in zip(implementations, times)]
