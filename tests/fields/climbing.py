@@ -22,7 +22,7 @@ from reference.tables import Row, read_table, table_words
 
 PIECES = [1, 2, 7]
 PAUSED_ANSWER = OUTCOMES[PAUSED]
-# Room for every row of most tables here; the steps of some are refused.
+# Room for every row of most fields here; in others a step is refused.
 ROWS = 300
 # A start is half resolved where so many variables are settled and a step is left.
 SETTLED = 2
@@ -88,7 +88,7 @@ def along(both, start, single, ran):
 
 
 def from_table(both, table):
-    """Whether the table is half resolved."""
+    """Compares the runs from a table; whether it is half resolved."""
     single = stepped_to_the_end(both, table)
     room = len(single[0]) + 1
     return along(both, table, single, both.run(table, room, [4] * room)) >= SETTLED and bool(single[0])

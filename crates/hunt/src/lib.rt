@@ -93,7 +93,7 @@ fn pair_in(
     Hunted::Nothing
 }
 
-// The least pair of the lowest bucket from v on that has one, whatever rows of lower buckets there are. `skip` and `from` hold in bucket v.
+// The least pair of the lowest bucket from v on that has one, whatever rows of lower buckets there are. `skip` and `from` are those of `pair_in`, for bucket v alone.
 pub fn hunt(
     t: &[u32],
     base: usize,

@@ -33,12 +33,12 @@ use Rattle.table.proofs.ValidParts.{sizes-made, sizes-pass, payloads-si
 use Rattle.table.proofs.TableLaws.{TableLaws}
 use Rattle.table.proofs.FormRows.{length-rowsFrom, rows-raws, carried-rowsFrom, rows-made, rows-valid, rows-pass}
 
--- as many rows as the capacity have room
--- no table takes more rows, however long
+-- no table takes more rows than this, however long it is
 pub capacity-small : (f : TableForm) (len n : ℕ) → capacityIn f len n ≤ maxRows
 unfolding capacityIn
 capacity-small f len n = omega arith
 
+-- as many rows as the capacity have room
 pub room-rows : (f : TableForm) (len n k : ℕ) → rowsAt n ≤ len → k ≤ capacityIn f len n → rowsAt n + f .rows .width * k ≤ len
 unfolding capacityIn
 room-rows f len n k h l =

@@ -147,7 +147,7 @@ class LowestUnsettled(unittest.TestCase):
         self.assertEqual(self.along(source, 100), [2, 3, 4])
 
     def test_no_bucket_is_skipped(self):
-        # Variable 1 has a pair only when the step on variable 0 has made its second row.
+        # Variable 1 has a pair only after the step on variable 0 has made its second row.
         self.assertEqual(self.along(table([2, 2], "2,0:1 1,2:1 0,1:1", 40), 100), [0, 1, 2])
 
     def test_random_tables(self):

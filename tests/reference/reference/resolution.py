@@ -42,7 +42,7 @@ def buckets(sizes, rows):
 def next_pair(sizes, rows, lowest=0):
     """The next pair, or None if no pair is left.
 
-    The buckets below `lowest` are passed over: the caller knows that they have no pair.
+    The buckets below `lowest` are passed over: it is the next pair where they have none.
     """
     members = buckets(sizes, rows)
     for variable in range(lowest, len(sizes)):

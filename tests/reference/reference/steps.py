@@ -62,8 +62,8 @@ def run_rows(sizes, rows, most_rows, most_steps):
         pair = next_pair(sizes, rows, lowest)
         if pair is None:
             return DONE, GOOD, rows, made
-        # The lowest unsettled variable. Both rows have none below it, so neither have the conclusions: the lower buckets
-        # stay as they were, without a pair.
+        # The lowest unsettled variable. Both rows have no variable below it, so neither have the conclusions: the lower
+        # buckets stay as they were, without a pair.
         lowest = pair.variable
         if len(made) == most_steps:
             return PAUSED, GOOD, rows, made
