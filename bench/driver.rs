@@ -67,9 +67,12 @@ fn read_sheet(path: &str) -> Vec<u32> {
     bytes.chunks_exact(4).map(|four| u32::from_le_bytes([four[0], four[1], four[2], four[3]])).collect()
 }
 
+fn variables_in(table: &[u32]) -> usize {
+    plain::words::payload(table[0]) as usize
+}
+
 fn rows_in(table: &[u32]) -> u32 {
-    let variables = plain::words::payload(table[0]) as usize;
-    plain::words::payload(table[variables + 1])
+    plain::words::payload(table[variables_in(table) + 1])
 }
 
 /// The rows of the encoding, the most rows seen and the rows at the end.
@@ -89,8 +92,8 @@ fn print_shape(sheet: &[u32]) {
     let mut buffers = Buffers::new();
     let Planned { number, outcome, steps, bound, assignment } = planned::<Plain>(sheet, &mut buffers);
     let (_, written) = Plain::make(sheet, &mut buffers.instance);
-    let variables = plain::words::payload(sheet[0]) as usize;
-    let cost = plain::cost(&buffers.instance[..written as usize], &assignment[..variables]).expect("an assignment");
+    let assignment = &assignment[..variables_in(&buffers.table)];
+    let cost = plain::cost(&buffers.instance[..written as usize], assignment).expect("an assignment");
     let (first, most, last) = rows_on_the_way(sheet);
     println!("{} {} {} {} {} {} {} {}", number, outcome, steps, bound, cost, first, most, last);
 }

@@ -33,7 +33,7 @@ def function_lines(scope, tuples):
 def wcsp_text(name, instance):
     functions = cost_functions(instance.entries)
     above_all = 1 + sum(entry.cost for entry in instance.entries)
-    lines = [f"{name} {len(instance.sizes)} {max(instance.sizes)} {len(functions)} {above_all}",
+    lines = [f"{name} {len(instance.sizes)} {max(instance.sizes, default=0)} {len(functions)} {above_all}",
              " ".join(map(str, instance.sizes))]
     for scope, tuples in functions.items():
         lines += function_lines(scope, tuples)

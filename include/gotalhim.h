@@ -6,10 +6,10 @@
 #include <stdint.h>
 
 /* The version of this interface. Another major version may change what is here; another minor one only adds to it. */
-#define GOTALHIM_VERSION_MAJOR 3
-#define GOTALHIM_VERSION_MINOR 1
+#define GOTALHIM_VERSION_MAJOR 4
+#define GOTALHIM_VERSION_MINOR 0
 #define GOTALHIM_VERSION_PATCH 0
-#define GOTALHIM_VERSION "3.1.0"
+#define GOTALHIM_VERSION "4.0.0"
 
 #ifdef __cplusplus
 extern "C" {
@@ -17,7 +17,7 @@ extern "C" {
 
 /*
  * Words. Everything is 32-bit words: the kind in the top four bits, the payload in the low 28, unnamed bits zero.
- *    1 head: number of variables n, 1 to 12 (stations)
+ *    1 head: number of variables n, 0 to 12 (stations)
  *    2 size: number of values of a variable, 1 to 8 (spots of a station)
  *    3 binding: variable in bits 8-11, value in bits 0-2
  *    4 cost: 0 to 65,535
@@ -32,6 +32,8 @@ extern "C" {
  * forbids the combination. A forbidden entry costs GOTALHIM_FORBIDDEN_WEIGHT, which is more than all costs of an instance
  * together: a plan without a forbidden combination costs less than that, every other plan at least that.
  * Sheet: as an instance, but behind each size stand that many pairs of easting and northing.
+ * No words at all are a sheet and an instance, too, with n = 0 and no entries; a table always has its head. With n = 0 every
+ * entry has no bindings, so the one plan, of no bytes, costs them all.
  * Table: head, n sizes, row count, rows, then zeros to the end of the slice. A row is four sign words and the two words of
  * its weight, 1 to GOTALHIM_MAX_WEIGHT. In the five-word form, which version 2 had, a row is four sign words and one word
  * of kind 6 with its weight, 1 to GOTALHIM_FIVE_MAX_WEIGHT. A table with rows is valid in one form only, and only
@@ -40,7 +42,9 @@ extern "C" {
  *
  * Slices. A slice is a pointer and a length in elements. The pointer is not null, even where the length is 0, and is
  * aligned; the memory of a slice that a call may write overlaps no other slice of that call. Slices of any length and
- * any content are good arguments: no call reads or writes outside of them.
+ * any content are good arguments: no call reads or writes outside of them. For an empty slice, as that of no words, of a
+ * plan with n = 0 or of no answer, pass any pointer of its type that is not null, as the address of a variable or of a
+ * slice of the same call: nothing is read or written there. malloc(0) may give a null pointer.
  *
  * Answers. Every function returns a number: 0 for success, else that of the first test that fails. Further fields are
  * written to the front of the answer slice; fields that it has no room for are left out, elements behind them are kept.
@@ -56,7 +60,7 @@ extern "C" {
 /* The numbers. Among 1 to 5 the faulty word nearest the front decides; a set unnamed bit is 1, 2 or 3 by its place. */
 enum gotalhim_number {
     GOTALHIM_GOOD = 0,
-    GOTALHIM_BAD_HEAD = 1,          /* no words, first word not a head, or n not 1 to 12 */
+    GOTALHIM_BAD_HEAD = 1,          /* first word not a head, or n above 12 */
     GOTALHIM_BAD_VARIABLE = 2,      /* size or coordinate word missing, of a wrong kind or out of range */
     GOTALHIM_BAD_ENTRY = 3,         /* entry word of a wrong kind, unknown variable or value, variables not rising, a
                                        forbidden word with a payload other than 0, or neither cost nor forbidden word at
@@ -117,7 +121,8 @@ enum gotalhim_outcome {
 
 /*
  * Makes the instance of a sheet: first an entry for each pair of values of neighbouring variables, which costs the
- * distance, then the sheet's own entries word for word. Every distance is the nearest whole metre, a half going up.
+ * distance, then the sheet's own entries word for word. Every distance is the nearest whole metre, a half going up. With
+ * n = 0 the instance has the words of the sheet, none for none.
  * Tests: 1 to 5 on the sheet; 10 if the instance is longer than the target.
  * Answer: the number of words written.
  * Memory: the instance in front of the target, the rest kept.
@@ -270,7 +275,7 @@ uint32_t gotalhim_check(const uint32_t *instance, size_t instance_length,
 /*
  * The distance from a position, an easting word and a northing word, to the place of the plan's value of a variable: the
  * nearest whole metre, a half going up.
- * Tests: 1 to 5 on the sheet; 8.
+ * Tests: 1 to 5 on the sheet; 8, which with n = 0 always applies.
  * Answer: the metres.
  */
 uint32_t gotalhim_readout(const uint32_t *sheet, size_t sheet_length,

@@ -23,7 +23,9 @@ pub fn encode_read<'a>(instance: &[u32], read: &Instance, table: &'a mut [u32]) 
     let rows = rows_of(&read.domains, Entries::of(&instance[read.entries..]));
     require(rows.len() <= capacity(variables, table.len()), Refusal::TableFull)?;
     table.fill(0);
-    table[..=variables].copy_from_slice(&instance[..=variables]);
+    // The instance may be no words at all; a table has a head.
+    table[0] = words::word(words::HEAD, variables as u32);
+    table[1..=variables].copy_from_slice(&instance[read.entries - variables..read.entries]);
     table[variables + 1] = words::word(words::ROW_COUNT, rows.len() as u32);
     rows_in_mut(&mut table[rows_start(variables)..])[..rows.len()].copy_from_slice(&rows);
     Ok(Table::over(table, read.domains, rows.len()))

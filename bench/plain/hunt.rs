@@ -38,7 +38,7 @@ impl Start {
     }
 }
 
-/// The next pair, or none if no pair is left.
+/// The next pair, or none if no pair is left. Where the field has no variables, no row is in the bucket that a hunt starts with.
 pub fn next_pair(domains: &Domains, rows: &[Row], start: &Start) -> Option<Pair> {
     let found = Bucket::of(domains, start.variable).pair(rows, start);
     found.or_else(|| {

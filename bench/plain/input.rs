@@ -1,5 +1,7 @@
 //! Reading instances and sheets, with faults 1 to 5. Reading goes forward and ends at the first faulty word.
 
+use std::ops::RangeInclusive;
+
 use crate::distance::Place;
 use crate::domains::Domains;
 use crate::limits::{MAX_COORDINATE, MAX_COST, MAX_ENTRIES, MAX_SIZE, MAX_VARIABLES};
@@ -42,19 +44,23 @@ impl<'a> Reader<'a> {
         word
     }
 
-    fn number(&mut self, wanted: u32, most: u32, refusal: Refusal) -> Result<u32, Refusal> {
+    fn number(&mut self, wanted: u32, range: RangeInclusive<u32>, refusal: Refusal) -> Result<u32, Refusal> {
         match self.next() {
-            Some(word) if kind(word) == wanted && (1..=most).contains(&payload(word)) => Ok(payload(word)),
+            Some(word) if kind(word) == wanted && range.contains(&payload(word)) => Ok(payload(word)),
             _ => Err(refusal),
         }
     }
 
+    /// The number of variables; no words at all are a field without any.
     fn head(&mut self) -> Result<usize, Refusal> {
-        Ok(self.number(words::HEAD, MAX_VARIABLES as u32, Refusal::BadHead)? as usize)
+        if self.words.is_empty() {
+            return Ok(0);
+        }
+        Ok(self.number(words::HEAD, 0..=MAX_VARIABLES as u32, Refusal::BadHead)? as usize)
     }
 
     fn size(&mut self) -> Result<u32, Refusal> {
-        self.number(words::SIZE, MAX_SIZE, Refusal::BadVariable)
+        self.number(words::SIZE, 1..=MAX_SIZE, Refusal::BadVariable)
     }
 
     fn coordinate(&mut self, wanted: u32) -> Result<(), Refusal> {
@@ -113,8 +119,9 @@ pub fn read_instance(words: &[u32]) -> Result<Instance, Refusal> {
     for _ in 0..count {
         domains.push(reader.size()?);
     }
+    let entries = reader.at;
     reader.entries(&domains, 0)?;
-    Ok(Instance { domains, entries: 1 + count })
+    Ok(Instance { domains, entries })
 }
 
 pub fn read_sheet(words: &[u32]) -> Result<Sheet, Refusal> {

@@ -112,7 +112,7 @@ fn laid_out(row_words: usize, words: &[u32]) -> Result<(Domains, &[u32]), Refusa
 /// The domains of a slice that has room for head, sizes and row count.
 fn valid_domains(words: &[u32]) -> Result<Domains, Refusal> {
     let count = valid_payload(words, 0, words::HEAD)? as usize;
-    require((1..=MAX_VARIABLES).contains(&count), Refusal::BadTable)?;
+    require(count <= MAX_VARIABLES, Refusal::BadTable)?;
     require(rows_start(count) <= words.len(), Refusal::BadTable)?;
     let mut domains = Domains::none();
     for variable in 0..count {

@@ -20,6 +20,10 @@ def heavy(weight):
     return table(SIZES, f"6,0:2 1,0:{weight} empty:1", table_length(2, 3))
 
 
+def no_stations(weight, form=SIX):
+    return as_bytes(table([], f"empty:{weight}", table_length(0, 1, form=form), form))
+
+
 # What is converted, the arguments behind the files, and what is said.
 REFUSED = [
     ("six", as_bytes(NEW), [], "the table has six words to a row already (refusal 9)"),
@@ -33,6 +37,13 @@ REFUSED = [
     ("six", as_bytes(OLD[:-1] + [1]), [], NO_FIVE),
     ("five", as_bytes(NEW[:4] + NEW[:1] + NEW[5:]), [], NO_SIX),
     ("six", as_bytes([0x1000000D] + OLD[1:]), [], NO_FIVE),
+    ("six", as_bytes([0x10000000]), [], NO_FIVE),
+    ("five", bytes(8), [], NO_SIX),
+    ("six", no_stations(7), [], "the table has six words to a row already (refusal 9)"),
+    ("five", no_stations(7, FIVE), [], "the table has five words to a row already (refusal 9)"),
+    ("five", no_stations(7)[:-8], [], NO_SIX),
+    ("six", no_stations(7, FIVE), ["--rows", "0"], "no room for its 1 row in a table for 0 (refusal 12)"),
+    ("five", no_stations(1 << 28), [], TOO_HEAVY),
     ("six", as_bytes(OLD + [0] * (MOST_WORDS + 1 - len(OLD))), [], TOO_LONG),
     ("six", as_bytes(OLD) + b"\0" * 1_000_000, [], TOO_LONG),
     ("five", as_bytes(NEW + [0] * (MOST_WORDS + 1 - len(NEW))), [], TOO_LONG),

@@ -3,7 +3,9 @@ bits and the words of the target in the others, and then a table."""
 
 import random
 import struct
+from itertools import product
 
+import empty_tables
 from converted import MOST_WORDS, PROGRAM
 from programs import at_failed_read, at_failed_write, given_as_file, given_in_pieces, given_whole
 from reference import to_five, to_six, words
@@ -53,6 +55,14 @@ def check_lengths(checks):
                 for length in sorted({len(source.sizes) + 1, len(source.sizes) + 2, needed - 1, needed, needed + 4}):
                     compare(checks, f"{source.name} with {form.row_words} words to a row, asked for {wanted} in {length} words",
                             request(wanted, length, table))
+
+
+def check_no_stations(checks):
+    """Every table of no stations and of up to nine words, and slices that are none, asked for in both forms."""
+    valid = [table for table in empty_tables.slices() if empty_tables.is_valid(table)]
+    for table in [*valid, [], [words.head(0)], [0] * 2, [0] * 8, [words.head(0)] * 2]:
+        for wanted, length in product(CALLS, (0, 1, 2, 6, 7, 8, 9)):
+            compare(checks, f"{table}, asked for {wanted} in {length} words", request(wanted, length, table))
 
 
 def check_first_words(checks):
@@ -107,5 +117,5 @@ def check_ways(checks):
 
 
 def run(checks):
-    for check in (check_lengths, check_first_words, check_long, check_damaged, check_ways):
+    for check in (check_lengths, check_no_stations, check_first_words, check_long, check_damaged, check_ways):
         check(checks)

@@ -52,15 +52,21 @@ def check_back(checks, folder, source, form, room):
     (folder / "third").unlink()
 
 
+def spares(at, source, form):
+    """How many words past the rows of a source there are: of no stations as many as make two to nine words in all."""
+    tried = [at % 12 if len(source.rows) < MAX_ROWS else 0]
+    if not source.sizes:
+        tried = range(10 - len(source.words(form)))
+    # Five words behind the last place for six are a whole row of five.
+    return [spare if form == FIVE or spare % 6 < 5 else 0 for spare in tried]
+
+
 def check_round_trips(checks, folder):
     for at, source in enumerate(source for source in all_sources() if source.narrow()):
         for form, other in forms_of(source):
-            # Five words behind the last place for six are a whole row of five.
-            spare = at % 12 if form == FIVE or at % 6 < 5 else 0
-            if len(source.rows) == MAX_ROWS:
-                spare = 0
-            room = check_file(checks, folder, source, form, other, spare)
-            check_back(checks, folder, source, form, room)
+            for spare in spares(at, source, form):
+                room = check_file(checks, folder, source, form, other, spare)
+                check_back(checks, folder, source, form, room)
 
 
 def check_edges(checks, folder):

@@ -1,4 +1,5 @@
-"""The tables that are converted: half-resolved ones, rows of every kind of weight, none, and as many as there may be."""
+"""The tables that are converted: half-resolved ones, rows of every kind of weight, none, as many as there may be, and those of no
+stations."""
 
 import random
 from typing import NamedTuple
@@ -58,6 +59,9 @@ def all_sources():
     yield Source("no rows", (3, 1), [])
     for weight in (FIVE_MAX_WEIGHT, FIVE_MAX_WEIGHT + 1, 1 << 32, MAX_WEIGHT):
         yield Source(f"weight {weight}", (4, 2), [Row((1, 0), 5), Row((0, 1), weight)])
+    yield Source("no stations", (), [])
+    for weight in (7, FIVE_MAX_WEIGHT, FIVE_MAX_WEIGHT + 1):
+        yield Source(f"no stations, weight {weight}", (), [Row((), weight)])
     yield most_rows()
 
 

@@ -17,9 +17,12 @@ def good_calls(both):
     for sizes, entries in SMALL_FIELDS + [GROWING, NONE_LEFT]:
         through_all_calls(both, sizes, entries, 0)
     both.make(SHEET, [9] * 20)
+    both.make([], [])
     both.cost(fields.instance(*GROWING), [0, 0, 0])
+    both.cost([], [])
     both.readout(SHEET, [0, 1], 1, words.easting(0), words.northing(0))
     both.drive(fields.instance(*GROWING), [9] * 60, [driver.step_word()] * 3, [9] * 3, [9] * 3)
+    both.drive([], [9] * 2, [driver.step_word()], [], [])
     both.to_six(FIVE_WORDS, [9] * 15)
     both.to_five(SIX_WORDS, [9] * 13)
 
@@ -49,6 +52,7 @@ def refused_calls(both):
     both.make(SHEET, [9] * 3)
     both.cost(instance, [])
     both.readout(SHEET, [0, 1], 2, words.easting(0), words.northing(0))
+    both.readout([], [], 0, words.easting(0), words.northing(0))
 
 
 def compare(both):

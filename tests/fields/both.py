@@ -9,6 +9,7 @@ from typing import NamedTuple
 import driver
 import reference
 from different import Different
+from inputs import named_variables
 from proved import BYTE, FIELD, SIZE, WORD, Slice, call
 from reference import inputs, words
 from reference.answers import BAD_TABLE, FORBIDDEN, GOOD
@@ -63,11 +64,6 @@ def fault_of(got, expected):
                for at, (one, other) in enumerate(zip(got.slices, expected.slices)) if one != other])
 
 
-def named_variables(table):
-    """The number of variables that a table's head names, if it is one at all."""
-    return table[0] & 15 if table else 0
-
-
 def row_total(table):
     """The row count of a table that has just been written."""
     return words.payload_of(table[words.payload_of(table[0]) + 1])
@@ -79,6 +75,8 @@ class Both:
     def __init__(self):
         self.cases = 0
         self.numbers = set()
+        # Number and fields of the last call.
+        self.answered = []
         # Steps that were found to be on the lowest unsettled variable.
         self.climbed = 0
         # The length of the slice that is lent for the answer's fields; None for as many as there are.
@@ -97,6 +95,7 @@ class Both:
     def agree(self, name, arguments, expected):
         """Makes the call by the proved library and compares. A plan call alone has no slice for its answer."""
         answer, fields = self.lent_answer(expected.fields)
+        self.answered = [expected.number] + expected.fields
         expected = expected._replace(fields=fields)
         lent = [passed(kind, value) for kind, value in arguments]
         number = call("gotalhim_" + name, lent + [answer] * (name != "plan"))
@@ -169,13 +168,15 @@ class Both:
     def on_table(self, table):
         """A step, runs, plans, completions and conversions, each on the same table; where it is not valid, 9 comes before the
         short target's 10 and the 14 of what is fixed. Where all is forbidden, every value is rebuilt by a completion alone."""
+        variables = named_variables(table)
         self.step(table)
         self.run(table, RUN_LIMIT, [9] * (RUN_LIMIT + 1))
         self.run(table, RUN_LIMIT, [9] * 2)
         if self.plan(table, [200] * 13).number == FORBIDDEN:
-            self.complete(table, named_variables(table), [], [200] * 13)
+            self.complete(table, variables, [], [200] * 13)
         self.plan(table, [])
-        self.complete(table, 1, [0] * (named_variables(table) - 1), [200] * 13)
+        k = min(1, variables)
+        self.complete(table, k, [0] * (variables - k), [200] * 13)
         self.complete(table, SIZE_MAX, [], [])
         # With room for every row in either form.
         self.to_six(table, [9] * (len(table) + len(table) // 5))

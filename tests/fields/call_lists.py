@@ -34,7 +34,7 @@ def random_call(chance, variables):
         return driver.run_word(random_length(chance, [0, 1, 1, 2, 2, 3, 3, 4, MOST], driver.SLICE_BITS),
                                random_length(chance, [0, 1, 2, 5, MOST], driver.SLICE_BITS))
     if kind == driver.PLAN:
-        usual = [0, variables - 1, variables, variables + 1, MOST_TARGET, MOST_TARGET]
+        usual = [0, max(variables - 1, 0), variables, variables + 1, MOST_TARGET, MOST_TARGET]
         return driver.plan_word(random_length(chance, usual, words.PAYLOAD_BITS))
     return words.word(chance.randint(3, 15), chance.choice([0, 1, MOST_TARGET, chance.randrange(1 << 28)]))
 

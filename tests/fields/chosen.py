@@ -34,16 +34,16 @@ def scattered(chance, sizes, entry_total):
 
 
 def random_sizes(chance):
-    """Mostly few variables, sometimes all twelve."""
+    """Mostly few variables or none, sometimes all twelve."""
     if chance.random() < 0.1:
         return [chance.randint(1, 2) for _ in range(12)]
-    return [chance.randint(1, chance.choice([2, 3, 3, 8])) for _ in range(chance.randint(1, 4))]
+    return [chance.randint(1, chance.choice([2, 3, 3, 8])) for _ in range(chance.randint(0, 4))]
 
 
 def random_field(chance):
     """Half of them chains, which take many steps."""
     sizes = random_sizes(chance)
-    if chance.random() < 0.5 and max(sizes) < 5:
+    if chance.random() < 0.5 and all(size < 5 for size in sizes):
         return chain(chance, sizes)
     return scattered(chance, sizes, chance.randint(0, 14))
 

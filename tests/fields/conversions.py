@@ -15,7 +15,7 @@ from reference.inputs import Instance
 from reference.limits import FIVE_MAX_WEIGHT, FORBIDDEN_WEIGHT, MAX_ROWS, MAX_WEIGHT
 from reference.resolution import next_pair, resolve
 from reference.tables import Row, encode, encoded, read_table, table_words
-from small_fields import COVERED, all_fields
+from small_fields import every_field
 
 ORDER = [BAD_TABLE, TARGET_TOO_SHORT, WEIGHT_TOO_WIDE, TABLE_FULL]
 # Weights beside what one word holds and beside that of a forbidden entry.
@@ -46,12 +46,11 @@ def there_and_back(both, sizes, rows, spare):
 def small_fields(both):
     """Every small field after each step; tables that several fields come to are tried once."""
     tried = set()
-    for sizes, costs in COVERED:
-        for entries in all_fields(sizes, costs):
-            for rows in rows_on_the_way(sizes, entries):
-                if (tuple(sizes), rows) not in tried:
-                    there_and_back(both, sizes, rows, len(tried) % 7)
-                    tried.add((tuple(sizes), rows))
+    for sizes, entries in every_field():
+        for rows in rows_on_the_way(sizes, entries):
+            if (tuple(sizes), rows) not in tried:
+                there_and_back(both, sizes, rows, len(tried) % 7)
+                tried.add((tuple(sizes), rows))
 
 
 def tables_of(field):

@@ -5,7 +5,7 @@ import random
 
 import reference
 from chosen import GROWING, NONE_LEFT, chain, long_chain, scattered
-from lists import SMALL_FIELDS
+from lists import EMPTY_FIELDS, SMALL_FIELDS
 from records import ROWS, stepped
 from reference import fields, words
 from reference.forms import FIVE, SIX
@@ -188,7 +188,7 @@ def compare(both):
         for spoiled in (spoiled for table in in_five_words(tables) for spoiled in all_bits(table)):
             widened(both, spoiled)
     larger = [chain(chance, [3, 2, 3]), long_chain(), scattered(chance, [3] * 4, 12), scattered(chance, [8, 5, 2], 14)]
-    for index, field in enumerate(SMALL_FIELDS[:4] + [GROWING, NONE_LEFT] + larger):
+    for index, field in enumerate(SMALL_FIELDS[:4] + EMPTY_FIELDS + [GROWING, NONE_LEFT] + larger):
         tables = on_the_way(field, index % ROW_WORDS)
         for spoiled in (spoiled for table in tables for spoiled in changed(chance, table, SIX)):
             both.on_table(spoiled)

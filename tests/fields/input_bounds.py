@@ -1,9 +1,12 @@
 """The bounds of an input through every call that reads one: stations, costs, entries with legs counted, forbidden ones, targets."""
 
+from itertools import product
+
 import driver
+from inputs import named_variables
 from reference import fields, words
-from reference.answers import GOOD
-from reference.inputs import instance_of, instance_words, read_sheet
+from reference.answers import BAD_READOUT, GOOD
+from reference.inputs import made_words
 from reference.limits import FORBIDDEN_WEIGHT
 
 HERE = (0, 0)
@@ -12,7 +15,7 @@ MOST_ENTRIES = 4_096
 
 def instance_calls(both, instance):
     """The calls that read an instance, with room for forty rows."""
-    plan = [0] * (instance[0] & 15)
+    plan = [0] * named_variables(instance)
     length = fields.table_length(len(plan), 40)
     _, paid = both.cost(instance, plan)
     both.encode(instance, [9] * length)
@@ -22,18 +25,18 @@ def instance_calls(both, instance):
 
 def sheet_calls(both, sheet):
     """The calls that read a sheet; a good one is made in targets around its instance's length."""
-    plan = [0] * (sheet[0] & 15)
-    number = both.readout(sheet, plan, len(plan) - 1, words.easting(0), words.northing(300)).number
+    plan = [0] * named_variables(sheet)
+    number = both.readout(sheet, plan, max(len(plan) - 1, 0), words.easting(0), words.northing(300)).number
     lengths = [0, 40]
-    if number == GOOD:
-        needed = len(instance_words(instance_of(read_sheet(sheet))))
+    if number in (GOOD, BAD_READOUT):
+        needed = len(made_words(sheet))
         lengths += [needed - 1, needed, needed + 1]
     for length in lengths:
         both.make(sheet, [9] * length)
 
 
 def station_bounds(both):
-    for stations in (1, 12, 13):
+    for stations in (0, 1, 12, 13):
         for size in (1, 8, 9):
             both_forms(both, stations, size, [words.cost(7)])
     for head in (0, 15, 0xFFFFFFF):
@@ -67,10 +70,11 @@ def ends_of_entries():
 
 def entry_bounds(both):
     """4,095 and 4,096 entries of the greatest cost or forbidden, and what follows."""
-    for cost in (65_535, FORBIDDEN_WEIGHT):
-        for entries in (MOST_ENTRIES - 1, MOST_ENTRIES):
-            for end in ends_of_entries():
-                instance_calls(both, fields.instance([2], [([(0, 1)], cost)] * entries) + end)
+    for sizes, bindings in (([2], [(0, 1)]), ([], [])):
+        for cost in (65_535, FORBIDDEN_WEIGHT):
+            for entries in (MOST_ENTRIES - 1, MOST_ENTRIES):
+                for end in ends_of_entries():
+                    instance_calls(both, fields.instance(sizes, [(bindings, cost)] * entries) + end)
 
 
 def forbidden_words(both):
@@ -86,11 +90,12 @@ def forbidden_words(both):
 
 def forbidden_claims(both):
     """The cost of so many forbidden entries, claims beside it and with other high bits; no plan, but a completion."""
-    for count in (1, 2, 15, 16, 17, MOST_ENTRIES - 1, MOST_ENTRIES):
-        instance, length = fields.instance([1], [fields.forbidden()] * count), fields.table_length(1, 1)
-        _, paid = both.cost(instance, [0])
+    for sizes, count in product(([1], []), (1, 2, 15, 16, 17, MOST_ENTRIES - 1, MOST_ENTRIES)):
+        instance, length = fields.instance(sizes, [fields.forbidden()] * count), fields.table_length(len(sizes), 1)
+        plan = [0] * len(sizes)
+        _, paid = both.cost(instance, plan)
         for claimed in (paid, paid - 1, paid + 1, paid & words.PAYLOAD_MASK, paid & 0xFFFFFFFF, paid + (1 << 56), paid + (1 << 63)):
-            both.check(instance, [], [0], claimed, [9] * length)
+            both.check(instance, [], plan, claimed, [9] * length)
         both.on_table(both.encode(instance, [9] * length).table)
         both.drive(instance, [9] * length, [driver.plan_word(2)], [9], [9] * 2)
     # Costs whose low bits are those of the empty row, of which there is none.
@@ -102,8 +107,8 @@ def forbidden_claims(both):
 
 def leg_bounds(both):
     """Legs count first: so many stations with so many spots leave the rest of 4,096 for entries."""
-    for stations, size in ((1, 8), (2, 1), (2, 8), (12, 8)):
-        legs = (stations - 1) * size * size
+    for stations, size in ((0, 8), (1, 8), (2, 1), (2, 8), (12, 8)):
+        legs = max(stations - 1, 0) * size * size
         for entries in (MOST_ENTRIES - 1 - legs, MOST_ENTRIES - legs):
             every_other = [fields.forbidden() if at % 2 else ([], 1) for at in range(entries)]
             sheet = fields.sheet([[HERE] * size] * stations, every_other)

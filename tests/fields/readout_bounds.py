@@ -40,7 +40,7 @@ def position_words(both):
 
 
 def variables(both):
-    for stations in (1, 2, 12):
+    for stations in (0, 1, 2, 12):
         sheet = fields.sheet([[(100 * station, 0)] for station in range(stations)], [])
         for variable in list(range(14)) + [255, 256, (1 << 31), (1 << 32) - 1]:
             both.readout(sheet, [0] * stations, variable, *position(0, 0))
@@ -70,6 +70,8 @@ def input_first(both):
     sheet = corner_sheet()
     for length in range(len(sheet)):
         both.readout(sheet[:length], [], 99, 0, 0)
+    for front in ([], [words.head(13)], [0]):
+        both.readout(front + sheet[1:], [], 99, 0, 0)
     for end in ([words.binding(0, 0)], [words.cost(65_536)], [words.cost(0)] * 4_089, [words.cost(0)] * 4_088):
         both.readout(sheet + end, [], 99, 0, 0)
 

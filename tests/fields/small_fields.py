@@ -2,6 +2,7 @@
 any last values, and the checker.
 
 Covered are all fields with costs from these sets, the entries in the order constant, single values, pairs of values:
+- no variables: up to three constants of 0, 1, 65,535 or forbidden;
 - one variable of 1 to 4 values: constant 0 or 1, values 0 to 4;
 - two variables of 1 and 1, 1 and 2, 2 and 1, 2 and 2, 1 and 3, 3 and 1 values: constant 0 or 1, values 0 or 1, pairs 0 to 2;
 - two variables of 2 and 3 values: no constant, values 0 or 1, pairs 0 to 2;
@@ -17,6 +18,7 @@ from itertools import product
 from math import prod
 from typing import NamedTuple
 
+import empty_fields
 from both import row_total
 from climbing import along, stepped_to_the_end
 from completions import completed
@@ -65,6 +67,15 @@ def all_fields(sizes, costs):
         yield [(bindings, cost) for (bindings, _), cost in zip(listed, chosen)]
 
 
+def every_field():
+    """The sizes and entries of every field covered."""
+    for costs in empty_fields.constants():
+        yield [], [([], cost) for cost in costs]
+    for sizes, costs in COVERED:
+        for entries in all_fields(sizes, costs):
+            yield sizes, entries
+
+
 def most_rows(sizes):
     """As many rows as there are clauses without a full sign: a table of this capacity never runs full."""
     return prod(full(size) for size in sizes)
@@ -87,6 +98,5 @@ def through_all_calls(both, sizes, entries, spare):
 
 
 def compare(both):
-    for sizes, costs in COVERED:
-        for index, entries in enumerate(all_fields(sizes, costs)):
-            through_all_calls(both, sizes, entries, index % ROW_WORDS)
+    for index, (sizes, entries) in enumerate(every_field()):
+        through_all_calls(both, sizes, entries, index % ROW_WORDS)

@@ -9,6 +9,7 @@ from lists import SMALL_FIELDS
 from records import recorded
 from reference import fields, words
 from reference.answers import GOOD
+from reference.forms import FIVE, SIX
 from reference.limits import FORBIDDEN_WEIGHT, MAX_WEIGHT, ROW_WORDS
 from reference.tables import Row, read_table, table_words
 
@@ -36,6 +37,16 @@ def length_bounds(both):
     record = recorded(long_chain())
     for length in list(range(30)) + list(range(record.length - 15, record.length + 8)):
         in_table_of(both, record, length)
+
+
+def variable_bounds(both):
+    """From no variables to more than a table may have, in slices with room for them or a few words less or more; with and without
+    a row, in either form."""
+    for variables in (0, 1, 11, 12, 13, 14, 15):
+        for row_total, form in ((0, SIX), (1, FIVE), (1, SIX)):
+            table = table_words([1] * variables, [Row((), 7)] * row_total, fields.table_length(variables, row_total, 2, form), form)
+            for length in range(variables, len(table) + 1):
+                both.on_table(table[:length])
 
 
 def words_past_the_rows(both):
@@ -144,6 +155,7 @@ def most_encoded_rows(both):
 
 def compare(both):
     length_bounds(both)
+    variable_bounds(both)
     words_past_the_rows(both)
     width_of_the_rows(both)
     row_bounds(both)

@@ -6,7 +6,7 @@ from pathlib import Path
 
 from commands import EXAMPLES, SEASON
 from figured import NONE, ONE_REFUSED, THREE, figured, figured_from
-from reference.fields import season
+from reference.fields import NO_HEAD, NO_WORDS, season
 from sheets import all_sheets
 
 # A sheet of each outcome, in the order of the numbers.
@@ -22,8 +22,11 @@ def cases():
     yield "three sheets", three, THREE
     yield "each outcome", season([sheets[name] for name in OUTCOMES]), b"1 1 1 1 1 1 1 1 1 1 1 10 10 1\n"
     yield "each outcome, the last first", season([sheets[name] for name in OUTCOMES[::-1]]), b"1 1 1 1 1 1 1 1 1 1 1 10 10 11\n"
-    yield "the first of two equal costs", season([b"", corner, b"", corner]), b"2 2 0 0 0 0 0 0 0 0 0 20 10 2\n"
-    yield "a cost of 0", season([b"", sheets["one-station"]]), b"1 1 0 0 0 0 0 0 0 0 0 0 0 2\n"
+    yield "the first of two equal costs", season([NO_HEAD, corner, NO_HEAD, corner]), b"2 2 0 0 0 0 0 0 0 0 0 20 10 2\n"
+    yield "a cost of 0", season([NO_HEAD, sheets["one-station"]]), b"1 1 0 0 0 0 0 0 0 0 0 0 0 2\n"
+    yield "a length of 0", season([NO_WORDS]), b"1 0 0 0 0 0 0 0 0 0 0 0 0 1\n"
+    yield "lengths of 0 beside others", season([NO_HEAD, NO_WORDS, corner, NO_WORDS]), b"3 1 0 0 0 0 0 0 0 0 0 10 10 3\n"
+    yield "no stations", season([NO_WORDS, (EXAMPLES / "flooded.sheet").read_bytes()]), b"2 0 0 0 0 0 0 0 0 0 0 155 155 2\n"
     yield "a last sheet cut off", three[:-1], b"2 1 0 0 0 0 0 0 0 0 0 294 284 2\n"
     yield "a length cut off", three + b"\1", b"3 1 0 0 0 0 0 0 0 0 0 606 312 3\n"
     yield "a long sheet passed over", season([bytes(64_004), corner]), b"1 0 0 0 0 0 1 0 0 0 0 10 10 2\n"
@@ -44,13 +47,14 @@ def check_ways(checks, folder):
 
 def check_last(checks):
     """What is behind the 10,000th sheet stays unread, in a file without an end and for another who reads on."""
-    most = b"0 10000 0 0 0 0 0 0 0 0 0 0 0 0\n"
+    most = b"10000 0 0 0 0 0 0 0 0 0 0 0 0 1\n"
     checks.same("a file without an end", figured(["/dev/zero"]), (0, most, ""))
     behind = b"behind the last"
-    done = subprocess.run(["sh", "-c", '"$0" - && cat', SEASON], input=season([b""] * 10_000) + behind, capture_output=True)
+    done = subprocess.run(["sh", "-c", '"$0" - && cat', SEASON], input=season([NO_WORDS] * 10_000) + behind, capture_output=True)
     checks.same("what is behind the 10,000th sheet", (done.returncode, done.stdout, done.stderr), (0, most + behind, b""))
-    checks.same("a length cut off behind it", figured(["-"], season([b""] * 10_000) + b"\1"), (0, most, ""))
-    checks.same("a length cut off before it", figured(["-"], season([b""] * 9_999) + b"\1"), (0, most, ""))
+    checks.same("a length cut off behind it", figured(["-"], season([NO_WORDS] * 10_000) + b"\1"), (0, most, ""))
+    checks.same("a length cut off as the last", figured(["-"], season([NO_WORDS] * 9_999) + b"\1"),
+                (0, b"9999 1 0 0 0 0 0 0 0 0 0 0 0 1\n", ""))
 
 
 def run(checks):

@@ -24,8 +24,9 @@ PROGRAMS = {
 
 
 def check_season_arguments(checks):
-    parts = (b"usage: season FILE", b"one line of 14 numbers", b"2 to 6    how many were refused under 1, 2, 3, 4 and 5",
-             b"9         refused under 15", b"14        the first sheet", b"tools/sheet season pack", b"The exit status is 0")
+    parts = (b"usage: season FILE", b"A length of 0 is a\n", b"one line of 14 numbers",
+             b"2 to 6    how many were refused under 1, 2, 3, 4 and 5", b"9         refused under 15", b"14        the first sheet",
+             b"tools/sheet season pack", b"The exit status is 0")
     check_arguments(checks, "season", figured, figured_to_full, "examples/three.season", "the figures cannot be written", parts)
 
 

@@ -8,9 +8,9 @@ from pathlib import Path
 from commands import EXAMPLES
 from figured import ONE_REFUSED, PATIENCE, figured, figured_from, season_with
 from reference import fields, words
-from reference.fields import season
+from reference.fields import NO_HEAD, season
 
-NAMES = ["corner", "headland", "terraces"]
+NAMES = ["corner", "flooded", "headland", "terraces"]
 HINT = "season: {} looks like a single sheet; tools/sheet season pack makes a season from sheets\n"
 
 
@@ -26,17 +26,17 @@ def single_sheets():
         for ending in ("txt", "sheet"):
             yield f"{name}.{ending}", (EXAMPLES / f"{name}.{ending}").read_bytes()
     yield "a text after empty lines", b"\n\n\n\n\t" + (EXAMPLES / "corner.txt").read_bytes()
-    for stations in (1, 12):
+    yield "a text of comments alone", b"# under water\n"
+    for stations in (0, 1, 12):
         yield f"a head of {stations}", fields.as_bytes([words.head(stations)])
 
 
 def no_sheets():
     """Seasons that have the same line, and of which nothing is said."""
-    yield "a sheet of no words", season([b""])
     yield "a sheet of zeros", season([bytes(40)])
     yield "a length past the file", fields.as_bytes([3, words.head(1)])
     yield "a length cut off", b"abc"
-    for first in (words.head(0), words.head(13), words.size(1)):
+    for first in (words.head(0) - 1, words.head(13), words.size(1)):
         yield f"a length of {first}", fields.as_bytes([first, 0])
 
 
@@ -45,8 +45,8 @@ def check_sheet(checks, path, name, source):
     checks.same(f"season of {name}", figured([path]), (0, ONE_REFUSED, HINT.format(path)))
     checks.same(f"season - of {name}", read_on(path), (0, ONE_REFUSED, HINT.format("standard input")))
     checks.same(f"{name} in a pipe", figured(["-"], source), (0, ONE_REFUSED, ""))
-    path.write_bytes(season([b""]) + source)
-    checks.same(f"a sheet of no words and {name}", figured([path]), (0, b"0 2" + ONE_REFUSED[3:], ""))
+    path.write_bytes(season([NO_HEAD]) + source)
+    checks.same(f"a sheet without a head and {name}", figured([path]), (0, b"0 2" + ONE_REFUSED[3:], ""))
 
 
 def check_no_sheet(checks, path, name, source):

@@ -54,9 +54,11 @@ fn permitted(random: &mut Random, field: &Field) -> Derived {
     let mut table = vec![0; length(field.variables(), MUCH_ROOM)];
     let mut words = Vec::new();
     let rows = encoded_rows(field);
+    // Where there are no variables, no word is permitted.
+    let variables = field.variables().max(1);
     for _ in 0..random.between(0, TRIALS) {
         let second = random.below(rows + words.len() + 2);
-        words.push(step(random.below(field.variables()), random.below(second + 1), second));
+        words.push(step(random.below(variables), random.below(second + 1), second));
         let checked = plain::check(&instance, &words, &assignment, 0, &mut table);
         if checked.refusal == Some(Refusal::BadStep) {
             words.pop();

@@ -22,7 +22,7 @@ pub fn maybe(random: &mut Random, words: Vec<u32>, share: usize) -> Vec<u32> {
 
 fn damaged(random: &mut Random, mut words: Vec<u32>) -> Vec<u32> {
     if words.is_empty() {
-        return vec![random.next() as u32];
+        return vec![any_word(random)];
     }
     let at = place(random, words.len());
     match random.below(10) {
@@ -31,12 +31,17 @@ fn damaged(random: &mut Random, mut words: Vec<u32>) -> Vec<u32> {
         3 => words[at] = word(words[at] >> 28, random.pick(&PAYLOADS)),
         4 => words.truncate(at),
         5 => words.insert(at, words[at]),
-        6 => words.insert(at, word(random.below(16) as u32, random.pick(&PAYLOADS))),
+        6 => words.insert(at, any_word(random)),
         7 => drop(words.remove(at)),
         8 => words.swap(at, random.below(at + 1)),
-        _ => words.push(word(random.below(16) as u32, random.pick(&PAYLOADS))),
+        _ => words.push(any_word(random)),
     }
     words
+}
+
+/// A word of any kind, with a payload near some limit.
+fn any_word(random: &mut Random) -> u32 {
+    word(random.below(16) as u32, random.pick(&PAYLOADS))
 }
 
 /// Any place, those near the front and the end more often.

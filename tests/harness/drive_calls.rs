@@ -7,6 +7,7 @@ use crate::comparison::Comparison;
 use crate::damage;
 use crate::fields::Field;
 use crate::random::Random;
+use crate::table_calls::target;
 use crate::tables::any_length;
 
 const STEP: u32 = 0;
@@ -20,13 +21,13 @@ pub fn round(random: &mut Random, comparison: &mut Comparison) {
     let field = Field::any(random);
     let (table, variables) = (any_length(random, &field), field.variables());
     let steps = random.pick(&[0, 1, 3, 20, 60, 200]);
-    let bytes = random.pick(&[0, variables - 1, variables, variables, variables, variables + 3, 12]);
+    let target = target(random, variables);
     let call = Call::Drive {
         instance: damage::maybe(random, field.instance(), 12),
         table: random.words(table),
         calls: (0..random.between(0, 12)).map(|_| call_word(random, variables as u32)).collect(),
         derivation: random.words(steps),
-        target: random.bytes(bytes),
+        target,
     };
     comparison.make(random, call);
 }
@@ -36,7 +37,7 @@ fn call_word(random: &mut Random, variables: u32) -> u32 {
     match random.below(12) {
         0..=3 => word(STEP, 0),
         4..=6 => word(RUN, random.pick(&LIMITS) << 14 | random.pick(&SLICES)),
-        7..=9 => word(PLAN, random.pick(&[0, variables - 1, variables, variables, variables + 1, 0x0FFF_FFFF])),
+        7..=9 => word(PLAN, random.pick(&[0, variables.saturating_sub(1), variables, variables, variables + 1, 0x0FFF_FFFF])),
         // A step has no use for its payload.
         10 => word(STEP, random.next() as u32 & 0x0FFF_FFFF),
         _ => random.next() as u32,

@@ -11,6 +11,8 @@ pub struct Field {
     pub sizes: Vec<u32>,
     /// Each entry's bindings and the word that closes it.
     entries: Vec<(Vec<(usize, usize)>, u32)>,
+    /// Whether its words have a head, without which there are none at all.
+    headed: bool,
 }
 
 impl Field {
@@ -19,6 +21,9 @@ impl Field {
         if random.percent(25) {
             let sizes = sizes(random, 2, 5, &[1, 2, 2, 3]);
             return Field::linked(random, sizes);
+        }
+        if random.percent(6) {
+            return Field::empty(random);
         }
         let sizes = match random.below(20) {
             0 => sizes(random, 12, 12, &[1, 1, 2, 2, 3]),
@@ -31,10 +36,17 @@ impl Field {
         Field::with_entries(random, sizes, most)
     }
 
+    /// A field without variables: constant costs behind a head of 0, or no words.
+    fn empty(random: &mut Random) -> Field {
+        let headed = random.percent(75);
+        let most = if headed { 5 } else { 0 };
+        Field { headed, ..Field::with_entries(random, Vec::new(), most) }
+    }
+
     /// A field of the given domains with at most so many entries.
     fn with_entries(random: &mut Random, sizes: Vec<u32>, most: usize) -> Field {
-        let entries = (0..random.between(0, most)).map(|_| entry(random, &sizes)).collect();
-        Field { sizes, entries }
+        let entries = random.between(0, most);
+        Field::long(random, sizes, entries)
     }
 
     /// A field that takes many steps: each value has a cost, and so has each pair of values of neighbouring variables.
@@ -49,13 +61,13 @@ impl Field {
                 }
             }
         }
-        Field { sizes, entries }
+        Field { sizes, entries, headed: true }
     }
 
     /// A field with exactly so many entries, each of few bindings.
     pub fn long(random: &mut Random, sizes: Vec<u32>, entries: usize) -> Field {
         let entries = (0..entries).map(|_| entry(random, &sizes)).collect();
-        Field { sizes, entries }
+        Field { sizes, entries, headed: true }
     }
 
     pub fn variables(&self) -> usize {
@@ -66,8 +78,17 @@ impl Field {
         self.entries.len()
     }
 
+    /// The number of entries for travel between neighbouring variables.
+    pub fn legs(&self) -> usize {
+        self.sizes.windows(2).map(|sizes| (sizes[0] * sizes[1]) as usize).sum()
+    }
+
+    fn head(&self) -> Vec<u32> {
+        vec![word(HEAD, self.variables() as u32); usize::from(self.headed)]
+    }
+
     pub fn instance(&self) -> Vec<u32> {
-        let mut words = vec![word(HEAD, self.variables() as u32)];
+        let mut words = self.head();
         words.extend(self.sizes.iter().map(|&size| word(SIZE, size)));
         self.push_entries(&mut words);
         words
@@ -75,7 +96,7 @@ impl Field {
 
     /// A sheet with these entries and random places.
     pub fn sheet(&self, random: &mut Random) -> Vec<u32> {
-        let mut words = vec![word(HEAD, self.variables() as u32)];
+        let mut words = self.head();
         for &size in &self.sizes {
             words.push(word(SIZE, size));
             for _ in 0..size {

@@ -22,9 +22,8 @@ pub fn round(random: &mut Random, comparison: &mut Comparison) {
 
 fn make(random: &mut Random, field: &Field) -> Call {
     let sheet = field.sheet(random);
-    let legs: u32 = field.sizes.windows(2).map(|sizes| sizes[0] * sizes[1]).sum();
     let coordinates: u32 = field.sizes.iter().map(|size| 2 * size).sum();
-    let needed = sheet.len() - coordinates as usize + 3 * legs as usize;
+    let needed = sheet.len() - coordinates as usize + 3 * field.legs();
     let length = around(random, needed);
     Call::Make { sheet: damage::maybe(random, sheet, DAMAGED), target: random.words(length) }
 }
@@ -32,8 +31,8 @@ fn make(random: &mut Random, field: &Field) -> Call {
 /// Mostly enough, and often just enough or one too few.
 fn around(random: &mut Random, needed: usize) -> usize {
     match random.below(8) {
-        0 => random.below(needed),
-        1 => needed - 1,
+        0 => random.below(needed + 1),
+        1 => needed.saturating_sub(1),
         2 | 3 => needed,
         _ => needed + random.below(20),
     }
@@ -44,7 +43,8 @@ fn readout(random: &mut Random, field: &Field) -> Call {
     let variable = match random.below(10) {
         0 => field.variables() as u32,
         1 => random.pick(&[12, 16, 256, 0x8000_0000, u32::MAX]),
-        _ => random.below(field.variables()) as u32,
+        // Where there are no variables, every number is a fault.
+        _ => random.below(field.variables().max(1)) as u32,
     };
     Call::Readout {
         sheet: damage::maybe(random, sheet, DAMAGED / 2),
@@ -69,7 +69,7 @@ fn position(random: &mut Random, kind: u32, other: u32) -> u32 {
 pub fn assignment(random: &mut Random, field: &Field) -> Vec<u8> {
     let mut assignment = field.assignment(random);
     match random.below(12) {
-        0 => {
+        0 if !assignment.is_empty() => {
             let variable = random.below(field.variables());
             assignment[variable] = random.pick(&[field.sizes[variable] as u8, 8, 16, 255]);
         }

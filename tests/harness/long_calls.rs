@@ -13,12 +13,11 @@ const ROWS: usize = 4_096;
 
 /// About as many entries as are allowed, on few combinations.
 pub fn entries_round(random: &mut Random, comparison: &mut Comparison) {
-    let sizes = random.pick(&[[2, 1], [1, 3], [2, 2]]).to_vec();
-    let legs = (sizes[0] * sizes[1]) as usize;
+    let sizes = random.pick(&[&[2, 1][..], &[1, 3], &[2, 2], &[]]).to_vec();
     let entries = ENTRIES + random.below(4) - 1;
     let field = Field::long(random, sizes.clone(), entries);
     let (mut instance, assignment) = (field.instance(), field.assignment(random));
-    let mut sheet = Field::long(random, sizes, entries - legs).sheet(random);
+    let mut sheet = Field::long(random, sizes, entries - field.legs()).sheet(random);
     if random.percent(50) {
         let last = random.pick(&[word(COST, 65_536), word(BINDING, 0), word(FORBIDDEN, 0), word(FORBIDDEN, 1)]);
         *instance.last_mut().expect("an instance has words") = last;

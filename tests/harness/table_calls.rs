@@ -38,6 +38,6 @@ pub fn any_call(random: &mut Random, table: Vec<u32>, field: &Field) -> Call {
 
 /// The target of a plan, in some of the cases too short or longer than needed.
 pub fn target(random: &mut Random, variables: usize) -> Vec<u8> {
-    let length = random.pick(&[0, variables - 1, variables, variables, variables, variables + 3, 12]);
+    let length = random.pick(&[0, variables.saturating_sub(1), variables, variables, variables, variables + 3, 12]);
     random.bytes(length)
 }

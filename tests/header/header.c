@@ -1,5 +1,5 @@
 /* Prints what the header defines, and tries tables of exactly as many words as it says and of one fewer, completions,
- * forbidden combinations, and conversions. */
+ * forbidden combinations, conversions, fields without variables, and empty slices. */
 #include <stdio.h>
 #include <stdlib.h>
 #include <string.h>
@@ -44,17 +44,19 @@ static void print_values(void)
     printf("GOTALHIM_VERSION %s\n", GOTALHIM_VERSION);
 }
 
-enum { VALUES = 8, INSTANCE_WORDS = 1 + GOTALHIM_MAX_VARIABLES * (1 + 2 * VALUES), ROWS = 2 * VALUES, STEPS = 50 };
+enum { VALUES = 8, INSTANCE_WORDS = 2 + GOTALHIM_MAX_VARIABLES * (1 + 2 * VALUES), ROWS = 2 * VALUES, STEPS = 50 };
 
-/* Writes an instance whose encoding has so many rows, at most as many as there are values; returns its length. */
-static size_t write_instance(uint32_t *words, uint32_t variables, uint32_t rows)
+/* Writes an instance with so many entries of cost 1, one for each value and then constant ones; returns its length. Its
+ * encoding has a row for each value, and one for the constants together. */
+static size_t write_instance(uint32_t *words, uint32_t variables, uint32_t entries)
 {
     size_t length = 0;
     words[length++] = 1u << 28 | variables;
     for (uint32_t variable = 0; variable < variables; variable++)
         words[length++] = 2u << 28 | VALUES;
-    for (uint32_t row = 0; row < rows; row++) {
-        words[length++] = 3u << 28 | (row / VALUES) << 8 | row % VALUES;
+    for (uint32_t entry = 0; entry < entries; entry++) {
+        if (entry < VALUES * variables)
+            words[length++] = 3u << 28 | (entry / VALUES) << 8 | entry % VALUES;
         words[length++] = 4u << 28 | 1;
     }
     return length;
@@ -212,11 +214,60 @@ static int narrows(uint32_t variables, uint32_t more)
                == (more ? GOTALHIM_WEIGHT_TOO_WIDE : GOTALHIM_TABLE_FULL);
 }
 
-/* Whether a trial holds for every number of variables with each number up to so many and so many for each variable; what
- * does not is printed. */
-static int each(int (*holds)(uint32_t, uint32_t), const char *what, uint32_t most, uint32_t for_each_variable)
+/* A slice of no elements, which has its pointer from another. */
+#define EMPTY(pointer) (pointer), 0
+
+/* Whether a field without variables is planned and checked as the header says, in slices as short as they can be. Number 0
+ * has no words, and each number above it a head of 0 and one constant cost less, of 1 each. */
+static int plans_nothing(uint32_t variables, uint32_t number)
 {
-    for (uint32_t variables = 1; variables <= GOTALHIM_MAX_VARIABLES; variables++)
+    uint32_t sheet[INSTANCE_WORDS], instance[INSTANCE_WORDS], table[GOTALHIM_TABLE_WORDS(0, 1)];
+    uint64_t written = 9, rows = 9, ran[3] = {9, 9, 9}, weight = 9, cost = 9, replayed = 9;
+    uint8_t plan[1] = {9};
+    uint32_t total = number == 0 ? 0 : number - 1;
+    size_t length = number == 0 ? 0 : write_instance(sheet, variables, total);
+    size_t words = GOTALHIM_TABLE_WORDS(variables, total != 0);
+
+    return gotalhim_make(sheet, length, instance, length, &written, 1) == GOTALHIM_GOOD && written == length
+        && memcmp(instance, sheet, length * sizeof *sheet) == 0
+        && gotalhim_encode(instance, length, table, words, &rows, 1) == GOTALHIM_GOOD && rows == (total != 0)
+        && gotalhim_run(table, words, STEPS, EMPTY(table), ran, 3) == GOTALHIM_GOOD
+        && ran[0] == GOTALHIM_DONE && ran[1] == 0 && ran[2] == total
+        && gotalhim_plan(table, words, EMPTY(plan)) == GOTALHIM_GOOD
+        && gotalhim_complete(table, words, 0, EMPTY(plan), EMPTY(plan), &weight, 1) == GOTALHIM_GOOD && weight == total
+        && gotalhim_cost(instance, length, EMPTY(plan), &cost, 1) == GOTALHIM_GOOD && cost == total
+        && gotalhim_check(instance, length, EMPTY(table), EMPTY(plan), total, table, words, &replayed, 1) == GOTALHIM_GOOD
+        && replayed == 0 && plan[0] == 9;
+}
+
+/* Whether every call takes empty slices, all with the pointers of the same three variables, and leaves these alone. */
+static int takes_nothing(void)
+{
+    uint32_t word = 9;
+    uint64_t field = 9;
+    uint8_t byte = 9;
+    return gotalhim_make(EMPTY(&word), EMPTY(&word), EMPTY(&field)) == GOTALHIM_GOOD
+        && gotalhim_cost(EMPTY(&word), EMPTY(&byte), EMPTY(&field)) == GOTALHIM_GOOD
+        && gotalhim_readout(EMPTY(&word), EMPTY(&byte), 0, 8u << 28, 9u << 28, EMPTY(&field)) == GOTALHIM_BAD_READOUT
+        && gotalhim_encode(EMPTY(&word), EMPTY(&word), EMPTY(&field)) == GOTALHIM_TARGET_TOO_SHORT
+        && gotalhim_check(EMPTY(&word), EMPTY(&word), EMPTY(&byte), 0, EMPTY(&word), EMPTY(&field)) == GOTALHIM_TARGET_TOO_SHORT
+        && gotalhim_drive(EMPTY(&word), EMPTY(&word), EMPTY(&word), EMPTY(&word), EMPTY(&byte), EMPTY(&field))
+               == GOTALHIM_TARGET_TOO_SHORT
+        && gotalhim_step(EMPTY(&word), EMPTY(&field)) == GOTALHIM_BAD_TABLE
+        && gotalhim_run(EMPTY(&word), 1, EMPTY(&word), EMPTY(&field)) == GOTALHIM_BAD_TABLE
+        && gotalhim_plan(EMPTY(&word), EMPTY(&byte)) == GOTALHIM_BAD_TABLE
+        && gotalhim_complete(EMPTY(&word), 0, EMPTY(&byte), EMPTY(&byte), EMPTY(&field)) == GOTALHIM_BAD_TABLE
+        && gotalhim_to_six(EMPTY(&word), EMPTY(&word), EMPTY(&field)) == GOTALHIM_BAD_TABLE
+        && gotalhim_to_five(EMPTY(&word), EMPTY(&word), EMPTY(&field)) == GOTALHIM_BAD_TABLE
+        && word == 9 && field == 9 && byte == 9;
+}
+
+/* Whether a trial holds for every number of variables in a range with each number up to so many and so many for each
+ * variable; what does not is printed. */
+static int each(int (*holds)(uint32_t, uint32_t), const char *what, uint32_t fewest_variables, uint32_t most_variables,
+                uint32_t most, uint32_t for_each_variable)
+{
+    for (uint32_t variables = fewest_variables; variables <= most_variables; variables++)
         for (uint32_t number = 0; number <= most + for_each_variable * variables; number++)
             if (!holds(variables, number)) {
                 printf("%s %u over %u variables: does not agree\n", what, (unsigned)number, (unsigned)variables);
@@ -225,16 +276,30 @@ static int each(int (*holds)(uint32_t, uint32_t), const char *what, uint32_t mos
     return 1;
 }
 
+/* The rows that so many words have room for, over no variables, one and twelve, of six words each and of five. */
+static void print_rows(size_t words)
+{
+    printf("rows of %lu words: %lu %lu %lu %lu %lu %lu\n", (unsigned long)words,
+           (unsigned long)GOTALHIM_TABLE_ROWS(0, words), (unsigned long)GOTALHIM_TABLE_ROWS(1, words),
+           (unsigned long)GOTALHIM_TABLE_ROWS(12, words), (unsigned long)GOTALHIM_FIVE_TABLE_ROWS(0, words),
+           (unsigned long)GOTALHIM_FIVE_TABLE_ROWS(1, words), (unsigned long)GOTALHIM_FIVE_TABLE_ROWS(12, words));
+}
+
 int main(void)
 {
+    const uint32_t all = GOTALHIM_MAX_VARIABLES;
     print_values();
-    if (!each(agrees, "rows of a table", 0, VALUES) || !each(completes, "completions from", 0, 1)
-        || !each(forbids, "forbidden values", VALUES, 0) || !each(adds, "forbidden entries of each variable", 2, 0)
-        || !each(turns, "rows of a converted table", 0, VALUES) || !each(narrows, "weights too wide by", 1, 0))
+    if (!each(agrees, "rows of a table", 0, all, 1, VALUES) || !each(completes, "completions from", 1, all, 0, 1)
+        || !each(forbids, "forbidden values", 1, all, VALUES, 0)
+        || !each(adds, "forbidden entries of each variable", 0, all, 2, 0)
+        || !each(turns, "rows of a converted table", 0, all, 1, VALUES)
+        || !each(narrows, "weights too wide by", 1, all, 1, 0) || !each(plans_nothing, "a plan of no bytes", 0, 0, 4, 0))
         return 1;
+    if (!takes_nothing()) {
+        printf("empty slices: do not agree\n");
+        return 1;
+    }
     for (size_t words = 0; words < 30000; words += 100)
-        printf("rows of %lu words: %lu %lu, of five each %lu %lu\n", (unsigned long)words,
-               (unsigned long)GOTALHIM_TABLE_ROWS(1, words), (unsigned long)GOTALHIM_TABLE_ROWS(12, words),
-               (unsigned long)GOTALHIM_FIVE_TABLE_ROWS(1, words), (unsigned long)GOTALHIM_FIVE_TABLE_ROWS(12, words));
+        print_rows(words);
     return 0;
 }

@@ -13,7 +13,9 @@ VERSION = ["VERSION_MAJOR", "VERSION_MINOR", "VERSION_PATCH"]
 # Names with a value of their own, not those of macros with arguments.
 DEFINED = re.compile(r"^(?:#define|   ) GOTALHIM_(\w+) ", re.MULTILINE)
 PRINTED = re.compile(r"^GOTALHIM_(\w+) (\S+)$", re.MULTILINE)
-CAPACITY = re.compile(r"^rows of (\d+) words: (\d+) (\d+), of five each (\d+) (\d+)$", re.MULTILINE)
+# Of six words each and then of five, over each of these numbers of variables.
+CAPACITY = re.compile(r"^rows of (\d+) words:((?: \d+)+)$", re.MULTILINE)
+VARIABLES = (0, 1, 12)
 LENGTHS = 300
 
 
@@ -32,7 +34,7 @@ def run(checks, header, printed):
     checks.same("names and values", {name: int(value) for name, value in values.items()}, due())
     rows = CAPACITY.findall(printed)
     checks.same("lengths tried", len(rows), LENGTHS)
-    for words, *room in rows:
-        checks.same(f"the rows of {words} words", [int(count) for count in room],
-                    [max(capacity(variables, int(words), form), 0) for form in (SIX, FIVE) for variables in (1, 12)])
+    for words, room in rows:
+        checks.same(f"the rows of {words} words", [int(count) for count in room.split()],
+                    [max(capacity(variables, int(words), form), 0) for form in (SIX, FIVE) for variables in VARIABLES])
     return stack

@@ -17,10 +17,17 @@ INTERESTING = [0, 1, 0xFFFFFFFF] + [
                     0x8000000, 0xFFFFFFF)]
 
 
+def named_variables(source):
+    """The number of variables that the head of a sheet, an instance or a table names, if it has one at all."""
+    return source[0] & 15 if source else 0
+
+
 def good_sheets():
-    """A dozen accepted sheets: one station to twelve, travel, constants, empty entries, forbidden ones, bounds."""
+    """A dozen accepted sheets: no station to twelve, travel, constants, empty entries, forbidden ones, bounds."""
     chance = random.Random(1)
-    sheets = [fields.sheet([[(0, 0)], [(300, 400), (600, 800)]], [([(1, 0)], 9)]),
+    sheets = [[],
+              fields.sheet([], [([], 65535), fields.forbidden(), ([], 1)]),
+              fields.sheet([[(0, 0)], [(300, 400), (600, 800)]], [([(1, 0)], 9)]),
               fields.sheet([[(-1000000, 1000000)]], []),
               fields.sheet([[(0, 0)] * 8], [([], 65535), ([], 0)]),
               fields.sheet([[(0, 0)], [(0, 0)] * 2], [fields.forbidden((0, 0), (1, 1)), fields.forbidden(), ([(1, 0)], 65535)])]
@@ -63,7 +70,7 @@ def same_cost(instance, plan):
 
 def same_costs(instance, chance):
     """Plans of every kind: cut, too long, out of range, and in range or nearly so."""
-    stations = instance[0] & 15
+    stations = named_variables(instance)
     plans = [[], [0] * stations, [0] * (stations + 1), [255] * stations]
     plans += [[chance.randrange(4) for _ in range(stations)] for _ in range(8)]
     for plan in plans:
@@ -73,24 +80,30 @@ def same_costs(instance, chance):
 
 def answer_slices(instance):
     """An answer is written as far as its slice goes, and what lies behind its fields is kept."""
-    number, cost = proved.cost(instance, [0] * (instance[0] & 15))
+    plan = [0] * named_variables(instance)
+    number, cost = proved.cost(instance, plan)
     for length, expected in ((0, []), (2, [cost, 77]), (3, [cost, 77, 77])):
-        got = proved.answered_cost(instance, [0] * (instance[0] & 15), length)
+        got = proved.answered_cost(instance, plan, length)
         require(got == (number, expected), f"cost in an answer of {length}: {got}, due {number, expected}")
 
 
+def constant_bounds(front):
+    """The bounds of a cost and of entries, in constant ones behind these words."""
+    for cost in (65535, 65536):
+        yield front + [words.cost(cost)]
+    for entries in (4096, 4097):
+        yield front + [words.cost(at % 2) for at in range(entries)]
+        yield front + [words.forbidden()] * entries
+    yield front + [words.forbidden()] * 4096 + [words.forbidden(1)]
+
+
 def bounds():
-    """The bounds of document 01: stations, costs and entries."""
-    for stations in (12, 13):
+    """The bounds of documents 01 and 02: stations, costs and entries."""
+    for stations in (0, 12, 13):
         yield [words.head(stations)] + [w for _ in range(stations)
                                         for w in (words.size(1), words.easting(0), words.northing(0))]
-    one = fields.sheet([[(0, 0)]], [])
-    for cost in (65535, 65536):
-        yield one + [words.cost(cost)]
-    for entries in (4096, 4097):
-        yield one + [words.cost(0)] * entries
-        yield one + [words.forbidden()] * entries
-    yield one + [words.forbidden()] * 4096 + [words.forbidden(1)]
+    for places in ([], [[(0, 0)]]):
+        yield from constant_bounds(fields.sheet(places, []))
     two = fields.sheet([[(0, 0)] * 8] * 2, [])
     for entries in (4096 - 64, 4097 - 64):
         yield two + [words.cost(1)] * entries
@@ -99,22 +112,17 @@ def bounds():
 
 def instance_bounds():
     """The same bounds of an instance."""
-    for stations in (12, 13):
+    for stations in (0, 12, 13):
         yield [words.head(stations)] + [words.size(1)] * stations
-    one = fields.instance([1], [])
-    for cost in (65535, 65536):
-        yield one + [words.cost(cost)]
-    for entries in (4096, 4097):
-        yield one + [words.cost(1)] * entries
-        yield one + [words.forbidden()] * entries
-    yield one + [words.forbidden()] * 4096 + [words.forbidden(1)]
+    for sizes in ([], [1]):
+        yield from constant_bounds(fields.instance(sizes, []))
 
 
 def room_for(sheet):
     """Words in a target that is a little longer than the sheet's instance."""
     if not accepted(sheet):
         return 40
-    return len(inputs.instance_words(inputs.instance_of(inputs.read_sheet(sheet)))) + 3
+    return len(inputs.made_words(sheet)) + 3
 
 
 def sheet_cases(sheets, chance):
@@ -135,7 +143,7 @@ def instance_cases(sheets, chance):
     """The same words read as instances: small ones, made ones, damaged ones, and the bounds without coordinates."""
     cases = 0
     for words_given in small_sheets():
-        same_cost(words_given, [0])
+        same_cost(words_given, [0] * named_variables(words_given))
         cases += 1
     for sheet in sheets:
         made = reference.make_instance(sheet, [0] * 16000)
@@ -143,10 +151,10 @@ def instance_cases(sheets, chance):
         cases += same_costs(instance, chance)
         answer_slices(instance)
         for spoiled in damaged(instance[:40], chance):
-            same_cost(spoiled, [0] * (spoiled[0] & 15) if spoiled else [])
+            same_cost(spoiled, [0] * named_variables(spoiled))
             cases += 1
     for instance in instance_bounds():
-        same_cost(instance, [0] * (instance[0] & 15))
+        same_cost(instance, [0] * named_variables(instance))
         cases += 1
     return cases
 

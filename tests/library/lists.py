@@ -17,7 +17,13 @@ from reference.tables import Row, read_table, table_words
 
 OUTCOMES = {"done": 0, "paused": 1, "refused": 2}
 
-# P1 to P6 of document 01.
+# Fields without variables: with no cost, with two that add up, and forbidden.
+EMPTY_FIELDS = [
+    ([], []),
+    ([], [([], 3), ([], 0), ([], 4)]),
+    ([], [([], 3), fields.forbidden()]),
+]
+# P1 to P6 of document 01, and these.
 SMALL_FIELDS = [
     ([2], [([(0, 0)], 3), ([(0, 1)], 1)]),
     ([3], [([(0, 0)], 2), ([(0, 1)], 1), ([(0, 2)], 4)]),
@@ -25,6 +31,7 @@ SMALL_FIELDS = [
     ([2, 2], [([(0, 0)], 1), ([(0, 1), (1, 0)], 1)]),
     ([1], [([(0, 0)], 7)]),
     ([1], [([], 0)]),
+    *EMPTY_FIELDS,
 ]
 
 # Every number that a call can answer, and every outcome: each is reached several times.
@@ -167,7 +174,7 @@ def calls_on(table, variables, instance, chance):
 
 
 def random_field(chance):
-    variables = chance.choice([1, 2, 2, 3, 3, 4, 5, 8, 12])
+    variables = chance.choice([0, 1, 2, 2, 3, 3, 4, 5, 8, 12])
     sizes = [chance.randint(1, chance.choice([2, 4, 8])) for _ in range(variables)]
     entries = []
     for _ in range(chance.randint(0, 14)):
@@ -195,7 +202,7 @@ def list_of_calls(field, chance):
 def heavy_list(chance):
     """Calls on a valid table that need not come from an instance, with weights around the limits: of all, of the low word, of a
     forbidden entry."""
-    sizes = [chance.randint(2, 4) for _ in range(chance.choice([1, 2, 3, 4, 12]))]
+    sizes = [chance.randint(2, 4) for _ in range(chance.choice([0, 1, 2, 3, 4, 12]))]
     clauses = {tuple(chance.choice([0, chance.randrange(full(size))]) for size in sizes)
                for _ in range(chance.randint(1, 9))}
     weights = chance.choice([[1, 3, MAX_WEIGHT - 3, MAX_WEIGHT], [(1 << 28) - 1, 1 << 28, 1],

@@ -22,9 +22,9 @@ def plan_for(sizes, chance):
     """Mostly an assignment; else a value out of range, a byte too few or one too many."""
     plan = [chance.randrange(size) for size in sizes]
     way = chance.random()
-    if way < 0.1:
+    if plan and way < 0.1:
         plan[chance.randrange(len(plan))] = chance.choice([8, 255] + sizes)
-    elif way < 0.15:
+    elif plan and way < 0.15:
         plan.pop()
     elif way < 0.2:
         plan.append(0)
@@ -60,7 +60,9 @@ def run():
         sizes = sizes_in(sheet)
         for _ in range(300):
             reached[same_readout(sheet, sizes, chance)] += 1
-        for spoiled in chance.sample(list(damaged(sheet, chance)), 60):
+        # Of no words there are none to damage.
+        spoiled_sheets = list(damaged(sheet, chance))
+        for spoiled in chance.sample(spoiled_sheets, min(60, len(spoiled_sheets))):
             reached[same_readout(spoiled, sizes, chance)] += 1
     for sheet in bounds():
         for _ in range(20):

@@ -50,6 +50,23 @@ def plans():
     yield "combined-12x2", sheet(*combined(8, 12, 2, 20_000, 12))
 
 
+def no_stations():
+    """Fields without stations: no words, and a head of 0 with constant costs, which all are in the plan."""
+    yield "no-bytes", []
+    yield "no-stations", sheet([], [])
+    yield "no-stations-cost-7", sheet([], [([], 7)])
+    yield "no-stations-costs-add", sheet([], [([], 3), ([], 0), ([], 65_535), ([], 3)])
+    yield "no-stations-greatest-cost", sheet([], [([], 65_535)] * 4_096)
+    yield "15-no-stations", sheet([], [forbidden()])
+    yield "15-no-stations-beside-costs", sheet([], [([], 5), forbidden(), ([], 65_535)])
+    for name, word in (("station", words.size(1)), ("easting", words.easting(0)), ("pair", words.binding(0, 0)),
+                       ("head", words.head(0)), ("forbidden-1", words.forbidden(1)), ("zero", 0)):
+        yield f"3-no-stations-but-{name}", sheet([], []) + [word]
+        yield f"3-no-stations-but-{name}-between-costs", sheet([], [([], 5)]) + [word, words.cost(1)]
+    yield "4-no-stations-cost-65536", sheet([], []) + [words.cost(65_536)]
+    yield "5-no-stations-4097-entries", sheet([], [([], 0)] * 4_097)
+
+
 def some_forbidden():
     """Fields with forbidden spots and combinations in which a plan is left."""
     yield "one-spot-left", sheet([[HERE] * 3], [forbidden((0, 0)), ([(0, 1)], 65_535), forbidden((0, 2))])
@@ -74,8 +91,7 @@ def all_forbidden():
 
 
 def bad_heads():
-    yield "1-no-bytes", []
-    for stations in (0, 13, 0xFFFFFFF):
+    for stations in (13, 0xFFFFFFF):
         yield f"1-head-of-{stations}", [words.head(stations)] + EXAMPLE[1:]
     yield "1-no-head", EXAMPLE[1:]
     yield "1-zeros", [0] * 16_000
@@ -100,6 +116,7 @@ def bad_entries():
     yield "3-not-rising", EXAMPLE + [pair(1, 0), pair(0, 0), words.cost(1)]
     yield "3-station-twice", EXAMPLE + [pair(1, 0), pair(1, 0), words.cost(1)]
     yield "3-no-cost", EXAMPLE + [pair(0, 0), pair(1, 0)]
+    yield "3-head-of-0", [words.head(0)] + EXAMPLE[1:]
     yield "3-before-4", EXAMPLE + [pair(2, 0), words.cost(65_536)]
     yield "3-before-5", EXAMPLE + [words.forbidden()] * 4_093 + [words.forbidden(1)]
 
@@ -207,7 +224,7 @@ def odd_lengths():
 
 def all_sheets():
     """Every sheet as a name and its bytes."""
-    for group in (plans, some_forbidden, all_forbidden, bad_heads, bad_stations, bad_entries, bad_costs, long_inputs, capacities,
+    for group in (plans, no_stations, some_forbidden, all_forbidden, bad_heads, bad_stations, bad_entries, bad_costs, long_inputs, capacities,
                   high_bounds, full_in_the_run, limits):
         for name, source in group():
             yield name, as_bytes(source)

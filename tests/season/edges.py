@@ -6,7 +6,7 @@ import resource
 import subprocess
 
 from programs import at_failed_read, at_failed_write, given_one_by_one, left_in_file, shown
-from reference.fields import NO_WORDS, as_bytes, length, season, sheet
+from reference.fields import NO_HEAD, NO_WORDS, as_bytes, length, season, sheet
 from seasons import ONE, PASSED_OVER
 from sheets import HERE
 
@@ -30,12 +30,13 @@ def left_in_pipe(program, source):
 
 def check_nothing_behind_is_read(checks, program):
     first = [NO_WORDS] * 9_999
-    source, line = season([*first, NO_WORDS]), b"0 10000 0 0 0 0 0 0 0 0 0 0 0 0\n"
+    source, line = season([*first, NO_WORDS]), b"10000 0 0 0 0 0 0 0 0 0 0 0 0 1\n"
     checks.same("what is left in a pipe behind 10,000 sheets", left_in_pipe(program, source + BEHIND), (line, BEHIND))
     checks.same("10,000 sheets before a read that would fail", at_failed_read(program, source), line)
     for name, last, line in (("no words", NO_WORDS, line),
-                             ("a plan", ONE, b"1 9999 0 0 0 0 0 0 0 0 0 10 10 10000\n"),
-                             ("passed-over words", PASSED_OVER, b"0 9999 0 0 0 0 1 0 0 0 0 0 0 0\n")):
+                             ("a plan", ONE, b"10000 0 0 0 0 0 0 0 0 0 0 10 10 10000\n"),
+                             ("no head", NO_HEAD, b"9999 1 0 0 0 0 0 0 0 0 0 0 0 1\n"),
+                             ("passed-over words", PASSED_OVER, b"9999 0 0 0 0 0 1 0 0 0 0 0 0 1\n")):
         checks.same(f"what is left in a file behind {name} as the 10,000th sheet",
                     left_in_file(program, season([*first, last]) + BEHIND), (line, BEHIND))
 

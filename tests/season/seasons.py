@@ -4,7 +4,7 @@ import random
 from itertools import cycle, islice, product
 
 from reference import words
-from reference.fields import NO_WORDS, as_bytes, costing, length, season
+from reference.fields import NO_HEAD, NO_WORDS, as_bytes, costing, instance, length, season
 from reference.limits import FORBIDDEN_WEIGHT
 from sheets import EXAMPLE, all_sheets
 
@@ -12,10 +12,18 @@ ONE = as_bytes(EXAMPLE)
 # The shortest sheet that is passed over.
 PASSED_OVER = bytes(64_004)
 # Sheets of at most five words: refused under 1, 2 and 3, and planned, with a cost that may come twice.
-TINY = [NO_WORDS, as_bytes([words.head(13)]), as_bytes([words.head(1)]), costing(7)[:-4] + as_bytes([words.size(1)]),
-        costing(7)[:-4], costing(7)]
+REFUSED = [as_bytes([words.head(13)]), as_bytes([words.head(1)]), costing(7)[:-4] + as_bytes([words.size(1)])]
+TINY = [*REFUSED, NO_WORDS, costing(7)[:-4], costing(7)]
 # As short, with its one plan forbidden.
 FORBIDDEN_SHEET = costing(FORBIDDEN_WEIGHT)
+
+
+def constant(*costs):
+    """The bytes of a sheet without stations that has these costs, or forbids."""
+    return as_bytes(instance([], [([], cost) for cost in costs]))
+
+
+NO_STATIONS = constant()
 
 
 def cuts():
@@ -25,8 +33,11 @@ def cuts():
         for last in (b"\0\0\0", b"\xff\xff\xff"):
             yield f"length cut after {cut} of {last}", last[:cut]
             yield f"length cut after {cut} of {last} behind a sheet", season([ONE]) + last[:cut]
-    yield "length 0", length(0)
+    for count in (1, 2, 3):
+        yield f"length 0 {count} times", length(0) * count
+        yield f"length 0 {count} times and 3 bytes", length(0) * count + bytes(3)
     yield "length 0 before a sheet", season([NO_WORDS, ONE])
+    yield "length 0 behind a sheet", season([ONE, NO_WORDS])
     for announced in (1, 12, 16_000, 16_001, 0x3FFFFFFF, 0x40000000, 0x4000000B, 0x7FFFFFFF, 0x80000000, 0xC0000001,
                       0xFFFFFFFF):
         yield f"length {announced} before 44 bytes", season([ONE]) + length(announced) + ONE
@@ -43,9 +54,20 @@ def costs():
         yield f"costs {listed}", season(map(costing, listed))
     yield "forbidden between costs", season([FORBIDDEN_SHEET, costing(3), FORBIDDEN_SHEET, costing(65_535), FORBIDDEN_SHEET])
     yield "forbidden alone", season([FORBIDDEN_SHEET] * 3)
-    yield "nothing planned", season(TINY[:4])
-    yield "refused before costs 0", season([*TINY[:4], PASSED_OVER, costing(0), costing(0)])
-    yield "refused before a plan", season([*TINY[:4], PASSED_OVER, costing(4)])
+    yield "nothing planned", season(REFUSED)
+    for name, zero in (("costs 0", costing(0)), ("no words", NO_WORDS), ("no stations", NO_STATIONS)):
+        yield f"refused before {name}", season([*REFUSED, PASSED_OVER, zero, zero])
+    yield "refused before a plan", season([*REFUSED, PASSED_OVER, costing(4)])
+
+
+def no_stations():
+    """Sheets of no words and of no stations among others: which cost is the largest, and which sheet has it first."""
+    sheets = {"no words": NO_WORDS, "no costs": NO_STATIONS, "cost 4": constant(1, 3), "forbidden": constant(FORBIDDEN_WEIGHT),
+              "a station": costing(0), "a station at cost 4": costing(4)}
+    for chosen in product(sheets, repeat=2):
+        yield f"no stations: {' and '.join(chosen)}", season(sheets[name] for name in chosen)
+    yield "no stations: all", season([*sheets.values(), *sheets.values()])
+    yield "no stations: the greatest cost", season([ONE, constant(*[65_535] * 4_096), NO_WORDS])
 
 
 def many_sheets():
@@ -60,6 +82,7 @@ def many_sheets():
         yield f"{name} as the 10,000th sheet", last + end
     for cut in (1, 2, 3, 4):
         yield f"10,000 sheets and {cut} bytes", season([NO_WORDS] * 10_000) + length(16_000)[:cut]
+    yield "10,000 refused sheets and a byte", season([NO_HEAD] * 10_000) + b"\0"
 
 
 def every_outcome():
@@ -111,5 +134,5 @@ def randomly_damaged():
 
 
 def all_seasons():
-    for group in (cuts, costs, many_sheets, every_outcome, truncated, randomly_damaged):
+    for group in (cuts, costs, no_stations, many_sheets, every_outcome, truncated, randomly_damaged):
         yield from group()

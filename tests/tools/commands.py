@@ -41,8 +41,6 @@ def run(checks):
     checks.fails(["words", "-"], b"station 0\n", "standard input, line 1: station 0 has no spot")
     checks.fails(["text", "examples/corner.plan"], b"",
                  "examples/corner.plan, word 8: only 2 of its 4 bytes (refusal 1)")
-    checks.fails(["text", "-"], b"",
-                 "standard input, word 0: the sheet ends where the number of stations is due (refusal 1)")
     checks.fails(["words", "examples/none.txt"], b"", "examples/none.txt: No such file or directory")
     checks.fails(["text", "examples"], b"", "examples: Is a directory")
     for arguments in [[], ["words"], ["sheet", "-"], ["text", "-", "-"], ["--help"], *season_misuses()]:

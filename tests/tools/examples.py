@@ -8,13 +8,16 @@ from reference.planning import words_of
 
 EXAMPLES = ROOT / "examples"
 README = ROOT / "README.md"
-# Those that are planned, and the one whose every plan has a forbidden combination.
+# Those with stations that are planned, the one without stations, and the one whose every plan has a forbidden combination.
 NAMES = ["corner", "headland", "terraces"]
+FLOODED = "flooded"
 CULVERT = "culvert"
-ALL = sorted([*NAMES, CULVERT])
+ALL = sorted([*NAMES, FLOODED, CULVERT])
 
 # The printed plan of the small field that document 01 works out.
 CORNER_PLAN = b"PLAN\nCOST 10\nSTEPS 1\n0 0 0\n1 1 10\n"
+# Without stations, the sum of what every plan costs.
+FLOODED_PLAN = b"PLAN\nCOST 155\nSTEPS 0\n"
 
 
 def run(checks):
@@ -23,6 +26,7 @@ def run(checks):
     for name in ALL:
         check_example(checks, name)
     checks.same("examples/corner.plan", content("corner.plan"), CORNER_PLAN)
+    checks.same(f"examples/{FLOODED}.plan", content(f"{FLOODED}.plan"), FLOODED_PLAN)
     check_season(checks)
     check_shown_season(checks)
     check_table(checks)
@@ -54,7 +58,7 @@ def check_table(checks):
 
 
 def check_season(checks):
-    """The season of the three examples that are planned, and the figures that their plans come to."""
+    """The season of the three examples with stations that are planned, and the figures that their plans come to."""
     for ending in ["season", "figures"]:
         checks.same(f"examples/*.{ending}", [path.stem for path in EXAMPLES.glob(f"*.{ending}")], ["three"])
     checks.answers(["season", "pack", *(f"examples/{name}.txt" for name in NAMES)], b"", content("three.season"))

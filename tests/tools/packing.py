@@ -15,8 +15,9 @@ from reference.fields import season
 from text_faults import UNKNOWN
 
 SHEETS = 60
-# What the planner refuses is packed as it is: no words, no head, a head alone, a word more than it takes.
-REFUSED = {"none": b"", "zeros": bytes(8), "head": fields.as_bytes([0x10000001]), "long": fields.as_bytes([0x10000001] * 16_001)}
+# What the planner refuses is packed as it is: no head, too many stations, a head alone, a word more than it takes.
+REFUSED = {"zeros": bytes(8), "thirteen": fields.as_bytes([0x1000000D]), "head": fields.as_bytes([0x10000001]),
+           "long": fields.as_bytes([0x10000001] * 16_001)}
 
 
 def check_examples(checks):

@@ -19,6 +19,7 @@ def run(checks):
     rng = random.Random("sheets there and back")
     for path in sorted((ROOT / "examples").glob("*.sheet")):
         check_words(checks, path.name, path.read_bytes())
+    check_words(checks, "no words", fields.NO_WORDS)
     for at in range(SHEETS):
         places, entries = random_sheet(rng)
         words = fields.as_bytes(fields.sheet(places, entries))
@@ -37,7 +38,7 @@ def check_words(checks, name, words):
 
 def random_sheet(rng):
     """Places and entries; some entries repeat."""
-    sizes = [rng.randint(1, MAX_SIZE) for _ in range(rng.randint(1, MAX_VARIABLES))]
+    sizes = [rng.randint(1, MAX_SIZE) for _ in range(rng.randint(0, MAX_VARIABLES))]
     places = [[(random_coordinate(rng), random_coordinate(rng)) for _ in range(size)] for size in sizes]
     entries = [random_entry(rng, sizes) for _ in range(rng.randint(0, 12))]
     return places, entries + rng.choices(entries, k=rng.randint(0, 3)) if entries else entries
@@ -59,6 +60,8 @@ def limits():
         "most stations and spots": ([[here] * MAX_SIZE] * MAX_VARIABLES, [([], 1)] * (4_096 - 11 * 64)),
         "most entries": ([[here]], [([], 0)] * 4_096),
         "most forbidden": ([[here]], [fields.forbidden()] * 4_096),
+        "no stations and no entries": ([], []),
+        "no stations and most entries": ([], [([], MAX_COST), fields.forbidden()] * 2_048),
         "longest entry": ([[here]] * 12, [([(variable, 0) for variable in range(12)], MAX_COST)]),
         "longest forbidden": ([[here]] * 12, [fields.forbidden(*((variable, 0) for variable in range(12)))]),
         "longest instance": LONGEST_INSTANCE,
@@ -68,7 +71,7 @@ def limits():
 
 def loose_text(rng, places, entries):
     """The sheet as a careless hand writes it."""
-    lines = []
+    lines = [] if places else ["stations 0"]
     for variable, values in enumerate(places):
         lines.append(f"station {variable}{rng.choice(['', ' tor-süd', ' 7'])}")
         lines += [f"spot {value} at {loose_metres(rng, east)} {loose_metres(rng, north)}"

@@ -11,7 +11,7 @@ from examples import CULVERT, content
 from packing import REFUSED
 from reference import fields
 from reference.answers import GOOD
-from reference.fields import length, season
+from reference.fields import NO_HEAD, NO_WORDS, length, season
 from refusals import ROOM, crowded
 from sheets.forms import refusal_of_words
 from unpacking import NO_TEXT, cut_cases
@@ -38,23 +38,24 @@ def check_each(checks):
     checks.same("no sheets", reasons(b""), [])
     limits = [fields.as_bytes(fields.sheet(*limit)) for limit in round_trips.limits().values()]
     checks.same("sheets at the limits", reasons(season(limits)), [])
+    checks.same("sheets of no words", reasons(season([NO_WORDS, NO_HEAD, NO_WORDS])), [f"sheet 2: {NO_TEXT['zeros']}"])
 
 
 def check_cut(checks):
     """A cut season is not refused as too long, however long the sheet should have been."""
     good = content("corner.sheet")
     for behind, said in cut_cases():
-        checks.same(f"a season cut so that {said}", reasons(season([good, b""]) + behind),
-                    [f"sheet 2: {NO_TEXT['none']}", f"sheet 3: {said} (refusal 1)"])
+        checks.same(f"a season cut so that {said}", reasons(season([good, NO_HEAD]) + behind),
+                    [f"sheet 2: {NO_TEXT['zeros']}", f"sheet 3: {said} (refusal 1)"])
     checks.answers(["season", "why", "examples/corner.sheet"], b"",
                    b"sheet 1: its length is 268,435,458 words, but only 40 bytes are behind it (refusal 1)\n")
 
 
 def check_last(checks):
     """Nothing is said of what is behind the 10,000th sheet."""
-    for behind in (b"", b"\1", season([b"", b""])):
-        lines = reasons(season([b""] * 10_000) + behind)
-        checks.same(f"10,000 sheets and {behind}", (len(lines), lines[-1]), (10_000, f"sheet 10000: {NO_TEXT['none']}"))
+    for behind in (b"", b"\1", season([NO_HEAD, NO_HEAD])):
+        lines = reasons(season([NO_HEAD] * 10_000) + behind)
+        checks.same(f"10,000 sheets and {behind}", (len(lines), lines[-1]), (10_000, f"sheet 10000: {NO_TEXT['zeros']}"))
 
 
 def check_damaged(checks):
@@ -72,11 +73,11 @@ def check_held(checks):
     with tempfile.NamedTemporaryFile() as file:
         file.write(length(GIGABYTE // 4))
         file.seek(GIGABYTE, 1)
-        file.write(season([b""]))
+        file.write(season([NO_HEAD]))
         file.flush()
         limited = functools.partial(resource.setrlimit, resource.RLIMIT_AS, (GIGABYTE // 2, GIGABYTE // 2))
         checks.same("a sheet of a gigabyte", ran(["season", "why", file.name], b"", preexec_fn=limited),
-                    (0, f"sheet 1: {TOO_LONG}\nsheet 2: {NO_TEXT['none']}\n".encode(), ""))
+                    (0, f"sheet 1: {TOO_LONG}\nsheet 2: {NO_TEXT['zeros']}\n".encode(), ""))
 
 
 def run(checks):

@@ -18,8 +18,8 @@ WEIGHTS = {FIVE: [words.weight(5)], SIX: [words.weight(5), words.high_weight(0)]
 def front_cases():
     yield [], 0, "the table ends where the number of stations is due"
     yield [words.size(2)], 0, "a word of kind 2 where the number of stations is due, a word of kind 1"
-    for stations in (0, 13):
-        yield [words.head(stations)], 0, f"{stations} stations; a field has 1 to 12"
+    yield [0, 0], 0, "a word of kind 0 where the number of stations is due, a word of kind 1"
+    yield [words.head(13)], 0, "13 stations; a field has at most 12"
     yield FRONT[:2], 2, "the table ends where the number of spots of station 1 is due"
     yield FRONT[:2] + [words.size(9)], 2, "station 1 with 9 spots; a station has 1 to 8"
     yield FRONT, 3, "the table ends where the number of rows is due"
@@ -29,6 +29,22 @@ def front_cases():
     yield FRONT + [words.row_count(1)], 3, counted.format(1, 4, "0 rows of five")
     yield FRONT + [words.row_count(4_097)] + [0] * 30_000, 3, counted.format("4,097", "30,004", "4,096 rows of five")
     yield FRONT + [words.row_count(2), *SIGNS, *WEIGHTS[SIX], 0, 0], 3, counted.format(2, 12, "1 row of six")
+
+
+def no_station_cases(form):
+    """A head of 0: no sign stands in a row, and so there is one row at most."""
+    head, row, width = [words.head(0)], [*SIGNS, *WEIGHTS[form]], form.row_words
+    yield head, 1, "the table ends where the number of rows is due"
+    yield head + [words.size(1), words.row_count(0)], 1, "a word of kind 2 where the number of rows is due, a word of kind 10"
+    yield head + [words.row_count(0), 0, 1], 3, "a word other than 0 behind the last row"
+    yield head + [words.row_count(1), *row, 1], 2 + width, "a word other than 0 behind the last row"
+    yield head + [words.row_count(2), *row], 1, f"a row count of 2; {2 + width} words have room for 1 row of {NAMES[form]} words"
+    yield head + [words.row_count(2), *row, *row], 5 + width, "row 1 has the signs of row 0"
+    yield head + [words.row_count(1), *SIGNS, *form.weight_words(0)], 1 + width, "row 0 has a weight of 0"
+    for index, place in ((0, 0), (0, 2), (3, 2)):
+        signs = [words.signs(index, [place == at for at in range(3)]) if word == SIGNS[index] else word for word in row]
+        yield head + [words.row_count(1), *signs], 2 + index, (
+            f"row 0: there is no station {3 * index + place}; the field has none")
 
 
 def sign_cases(form):
@@ -121,7 +137,8 @@ def check_damaged(checks):
 
 
 def run(checks):
-    for cases in (front_cases(), sign_cases(FIVE), sign_cases(SIX), weight_cases(FIVE), weight_cases(SIX), mixed_cases()):
+    of_both = (cases(form) for cases in (no_station_cases, sign_cases, weight_cases) for form in (FIVE, SIX))
+    for cases in (front_cases(), *of_both, mixed_cases()):
         for source, at, reason in cases:
             checks.refuses("show", fields.as_bytes(source), f"word {at}: {reason} (refusal 9)", TABLE)
             checks.same(f"the forms of {source[:30]}", valid_forms(source), {})

@@ -30,6 +30,11 @@ station 0 spots 3
 station 1 spots 2
 station 2 spots 8
 """
+# Without stations there is one row at most.
+NO_STATIONS = """form {}
+words {}  # room for {}; {} used
+stations 0
+"""
 # As it is written by hand: without the words, with comments, in another line form and with a byte that is no UTF-8.
 LOOSE = (b"# last year's\r\n\r\n  form five # words to a row\nstation 0   spots 3\nstation 1 spots 2 # Gr\xe4ben\n"
          b"\trow 0 weight 05 unless 0/1,2 1/0\n")
@@ -40,7 +45,7 @@ def text_of(sizes, rows, length, form):
     room = capacity(len(sizes), length, form)
     lines = [f"form {NAMES[form]}",
              f"words {length}  # room for {room:,} row{'s' * (room != 1)} of {NAMES[form]} words; {len(rows):,} used"]
-    lines += [f"station {station} spots {size}" for station, size in enumerate(sizes)]
+    lines += [f"station {station} spots {size}" for station, size in enumerate(sizes)] if sizes else ["stations 0"]
     for number, (signs, weight) in enumerate(rows):
         named = [f" {station}/" + ",".join(spot for spot in "01234567" if sign >> int(spot) & 1)
                  for station, sign in enumerate(signs) if sign]
@@ -50,7 +55,7 @@ def text_of(sizes, rows, length, form):
 
 def random_rows(rng, form):
     """Sizes and rows, one at least."""
-    sizes = [rng.randint(1, MAX_SIZE) for _ in range(rng.randint(1, MAX_VARIABLES))]
+    sizes = [rng.randint(1, MAX_SIZE) for _ in range(rng.randint(0, MAX_VARIABLES))]
     weights = [1, 7, 65_535, 268_431_361, 268_435_455, form.max_weight]
     signs = {tuple(rng.randrange((1 << size) - 1) * (rng.random() < 0.5) for size in sizes) for _ in range(rng.randint(1, 20))}
     rows = [Row(clause, rng.choice(weights)) for clause in sorted(signs)]
@@ -75,6 +80,24 @@ def check_written_out(checks):
     for form in ("five or six", "five", "six"):
         checks.answers(["make", "-"], NO_ROWS.replace("five or six", form, 1).encode(), empty, TABLE)
     checks.answers(["make", "-"], LOOSE, fields.as_bytes(fields.table([3, 2], "6,1:5", 9, FIVE)), TABLE)
+
+
+def check_no_stations(checks):
+    """With the one row that there can be, in either form, and without it."""
+    for form, length in ((FIVE, 7), (FIVE, 11), (SIX, 8), (SIX, 13)):
+        text = NO_STATIONS.format(NAMES[form], length, f"1 row of {NAMES[form]} words", 1) + f"row 0 weight {form.max_weight}\n"
+        data = fields.as_bytes(table_words([], [Row((), form.max_weight)], length, form))
+        checks.answers(["show", "-"], data, text.encode(), TABLE)
+        checks.answers(["make", "-"], text.encode(), data, TABLE)
+    rooms = {2: (0, 0), 6: (0, 0), 7: (1, 0), 8: (1, 1), 12: (2, 1)}
+    for length, (five, six) in rooms.items():
+        room = f"{five} row{'s' * (five != 1)} of five words or {six} row{'s' * (six != 1)} of six words"
+        text, data = NO_STATIONS.format("five or six", length, room, 0).encode(), fields.as_bytes(table_words([], [], length))
+        checks.answers(["show", "-"], data, text, TABLE)
+        for form in (b"five or six", b"five", b"six"):
+            checks.answers(["make", "-"], text.replace(b"five or six", form, 1), data, TABLE)
+    loose = b"# under water\n form six # words to a row\n\tstations 0 # none\r\n\nrow 0 weight 07\n"
+    checks.answers(["make", "-"], loose, fields.as_bytes(fields.table([], "empty:7", 8)), TABLE)
 
 
 def check_random(checks):
@@ -112,5 +135,5 @@ def check_command(checks):
 
 
 def run(checks):
-    for check in (check_written_out, check_random, check_limits, check_command):
+    for check in (check_written_out, check_no_stations, check_random, check_limits, check_command):
         check(checks)

@@ -11,10 +11,11 @@ from table_faults import valid_forms
 from table_shapes import random_rows, text_of
 
 SPOILED = 1_500
-UNKNOWN = "a line begins with form, words, station, row or #"
+UNKNOWN = "a line begins with form, words, station, stations, row or #"
 FORM = "a form is written as 'form five', 'form six' or, for a table without rows, 'form five or six'"
 STATION = "a station is written as 'station NUMBER spots NUMBER'"
 ROW = "a row is written as 'row NUMBER weight NUMBER', or with 'unless STATION/SPOT,SPOT.. ..' behind it"
+NO_STATIONS = "'stations 0' is for a field without any"
 NO_FORM = "the form has to be told first, as 'form six'"
 ORDER = "{} too late: form, words, stations and rows come in this order"
 SIX_FORM = "form six\n"
@@ -38,18 +39,39 @@ def line_cases():
 def order_cases():
     yield "", 1, NO_FORM
     yield "station 0 spots 3\n", 1, NO_FORM
-    yield SIX_FORM, 2, "the text ends without a station"
+    yield "stations 0\n", 1, NO_FORM
+    yield SIX_FORM, 2, f"the text ends without a station; {NO_STATIONS}"
     yield SIX_FORM + "form six\n", 2, "a second form"
     yield "words 9\nform six\n", 2, ORDER.format("form")
     yield TWO + "words 9\n", 4, ORDER.format("words")
     yield SIX_FORM + "words 9\nwords 9\n", 3, "words a second time"
     yield TWO + "row 0 weight 1\nstation 2 spots 1\n", 5, ORDER.format("station")
-    yield SIX_FORM + "row 0 weight 1\n", 2, "a row before the first station"
+    yield SIX_FORM + "row 0 weight 1\n", 2, f"a row before the first station; {NO_STATIONS}"
     yield "form five or six\nstation 0 spots 3\nrow 0 weight 1\n", 3, (
         "a row in a table whose form is five or six; with rows it is one of the two")
     for what, text in [("station", "station 1 spots 2"), ("row", "station 0 spots 2\nrow 1 weight 1")]:
         line = 1 + len(text.split("\n"))
         yield SIX_FORM + text, line, f"{what} 1 where {what} 0 is due; they are numbered from 0 in order"
+
+
+def no_station_cases():
+    none = SIX_FORM + "stations 0\n"
+    for wrong in ["stations", "stations 1", "stations 0 spots 3"]:
+        yield SIX_FORM + wrong, 2, f"each station has a line of its own; {NO_STATIONS}"
+    yield none + "stations 0\n", 3, "'stations 0' a second time"
+    yield TWO + "stations 0\n", 4, "'stations 0' after a station"
+    yield TWO + "row 0 weight 1\nstations 0\n", 5, "'stations 0' after a station"
+    yield none + "station 0 spots 3\n", 3, "a station after 'stations 0'"
+    yield none + "form six\n", 3, "a second form"
+    yield none + "words 9\n", 3, ORDER.format("words")
+    yield "words 0\nform six\n", 2, ORDER.format("form")
+    for station in (0, 11):
+        yield none + f"row 0 weight 1 unless {station}/0", 3, f"there is no station {station}; the field has none"
+    yield none + "row 0 weight 1\nrow 1 weight 2\n", 4, "row 1 has the signs of row 0"
+    for words in (0, 1):
+        yield f"form five\nwords {words}\nstations 0\n", 4, f"{words} words are too few for 0 stations"
+    for form, words in [("five", 6), ("six", 7)]:
+        yield f"form {form}\nwords {words}\nstations 0\nrow 0 weight 1", 4, f"{words} words have room for 0 rows of {form} words"
 
 
 def number_cases():
@@ -109,7 +131,7 @@ def check_spoiled(checks):
 
 
 def run(checks):
-    for cases in (line_cases, order_cases, number_cases, sign_cases, room_cases):
+    for cases in (line_cases, order_cases, no_station_cases, number_cases, sign_cases, room_cases):
         for text, line, reason in cases():
             checks.refuses("make", text.encode(), f"line {line}: {reason}", TABLE)
     check_spoiled(checks)

@@ -9,9 +9,9 @@ from examples import ALL, content
 from reference import fields, words
 from sheets.forms import is_text
 
-TEXTS = [b"stat", b"\t\n\r ", b"\xff\xfe\x80\x7f", b"abcd\x01\x1f", b"# a\r\n\r\n", b" " * 64_001 + b"\0"]
+TEXTS = [b"stat", b"stations 0", b"\t\n\r ", b"\xff\xfe\x80\x7f", b"abcd\x01\x1f", b"# a\r\n\r\n", b" " * 64_001 + b"\0"]
 NO_TEXTS = [b"", b"a", b"abc", bytes(4), b"abc\0", b"\x01bcd", b"ab\x1fd", b"abc\x0b", b"abcd\0", b" " * 64_000 + b"\0"]
-NO_TEXTS += [fields.as_bytes([words.head(stations)]) for stations in range(1, 13)]
+NO_TEXTS += [fields.as_bytes([words.head(stations)]) for stations in range(13)]
 
 SHELL = '. "$0"; if is_text "$1"; then echo text; else echo words; fi'
 

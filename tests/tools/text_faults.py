@@ -11,13 +11,14 @@ from sheets.forms import text_to_words
 from spoiling import spoiled
 
 SPOILED = 1_000
-UNKNOWN = "a line begins with station, spot, cost, forbidden or #"
+UNKNOWN = "a line begins with station, spot, stations, cost, forbidden or #"
 METRES = "is not a number of metres from -10000.00 to 10000.00 with at most two decimal places"
 STATION_FORM = "a station is written as 'station NUMBER', or 'station NUMBER NAME' with a name of one word"
 SPOT_FORM = "a spot is written as 'spot NUMBER at EASTING NORTHING'"
 COST_FORM = "a cost is written as 'cost AMOUNT', or 'cost AMOUNT at STATION/SPOT STATION/SPOT ..'"
 FORBIDDEN_FORM = "a forbidden combination is written as 'forbidden STATION/SPOT STATION/SPOT ..'"
-EARLY = "a cost or a forbidden combination before the first station"
+NO_STATIONS = "'stations 0' is for a field without any"
+EARLY = f"a cost or a forbidden combination before the first station; {NO_STATIONS}"
 LATE = "a {} after the first cost or forbidden combination; all stations and spots come first"
 
 LONG_INSTANCE = ("here the instance made from the sheet passes 16,000 words, the most that the planner takes; "
@@ -83,8 +84,6 @@ def number_cases():
 
 def order_cases():
     """Stations, spots and costs that are missing or stand at the wrong place."""
-    yield "", 1, "the text ends without a station"
-    yield "# nothing\n\n", 3, "the text ends without a station"
     yield "station 1\n", 1, order("station", 1, 0)
     yield ONE + "station 0\n", 3, order("station", 0, 1)
     yield ONE + "station 2\n", 3, order("station", 2, 1)
@@ -92,12 +91,29 @@ def order_cases():
     yield ONE + "spot 0 at 1 1\n", 3, order("spot", 0, 1)
     yield "spot 0 at 0 0\n", 1, "a spot before the first station"
     for entry in ["cost 5", "cost 5 at 0/0", "forbidden 0/0", "forbidden"]:
+        yield f"# under water\n{entry}\n", 2, EARLY
         yield f"{entry}\n" + ONE, 1, EARLY
+        yield f"{entry}\nstations 0\n", 1, EARLY
         yield ONE + f"{entry}\nstation 1\n", 4, LATE.format("station")
         yield ONE + f"{entry}\nspot 1 at 0 0\n", 4, LATE.format("spot")
     yield ONE + "station 1 # empty\n\n# end\n", 3, "station 1 has no spot"
     yield "\nstation 0\nstation 1\nspot 0 at 0 0\n", 2, "station 0 has no spot"
     yield "station 0\n\ncost 5 at 0/0\n", 1, "station 0 has no spot"
+
+
+def no_station_cases():
+    """What does not go with a field that has no stations."""
+    for wrong in ["stations", "stations 1", "stations 12", "stations 00", "stations -1", "stations none", "stations 0 gate"]:
+        yield f"# under water\n{wrong}\n", 2, f"each station has a line of its own; {NO_STATIONS}"
+    yield "stations 0\nstations 0\n", 2, "'stations 0' a second time"
+    yield "stations 0\ncost 5\nstations 0\n", 3, "'stations 0' a second time"
+    yield ONE + "stations 0\n", 3, "'stations 0' after a station"
+    yield ONE + "cost 5\nstations 0\n", 4, "'stations 0' after a station"
+    yield "stations 0\n\nstation 0\n", 3, "a station after 'stations 0'"
+    yield "stations 0\nspot 0 at 0 0\n", 2, "a spot before the first station"
+    for entry in ["cost 9 at", "forbidden"]:
+        yield f"stations 0\n{entry} 0/0", 2, "there is no station 0; the field has none"
+        yield f"stations 0\nforbidden\n{entry} 11/7", 3, "there is no station 11; the field has none"
 
 
 def entry_cases():
@@ -116,6 +132,7 @@ def room_cases():
     """Entries and words that are too many."""
     many = "more than 4,096 entries; the {} legs between neighbouring stations count first"
     for entry in ["cost 0\n", "forbidden\n"]:
+        yield "stations 0\n" + entry * 4_097, 4_098, many.format(0)
         yield ONE + entry * 4_097, 4_099, many.format(0)
         yield TWO + entry * 4_095, 6 + 4_095, many.format(2)
         yield stations(2, 8) + entry * (4_097 - 64), 18 + 4_097 - 64, many.format(64)
@@ -130,7 +147,7 @@ def room_cases():
 
 
 def run(checks):
-    for cases in (line_cases, break_cases, number_cases, order_cases, entry_cases, room_cases):
+    for cases in (line_cases, break_cases, number_cases, order_cases, no_station_cases, entry_cases, room_cases):
         for text, line, reason in cases():
             checks.refuses("words", text.encode(), f"line {line}: {reason}")
     checks.same("spoiled texts that the planner refuses", refused_after_all(random.Random("spoiled texts")), [])
@@ -139,9 +156,9 @@ def run(checks):
 def refused_after_all(rng):
     """Spoiled texts that the tool takes although the reference refuses their words."""
     wrong = []
-    source = (ROOT / "examples" / "headland.txt").read_text().split("\n")
+    sources = [(ROOT / "examples" / f"{name}.txt").read_text().split("\n") for name in ("headland", "flooded")]
     for _ in range(SPOILED):
-        text = "\n".join(spoiled(rng, source, ["0", "1/1", "5/2", "65536"]))
+        text = "\n".join(spoiled(rng, rng.choice(sources), ["0", "1/1", "5/2", "65536", "station", "stations"]))
         try:
             inputs.read_sheet(words_of(text_to_words(text.encode())))
         except Fault:

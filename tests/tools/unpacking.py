@@ -14,15 +14,15 @@ from examples import content
 from files import contents
 from packing import REFUSED
 from reference import fields
-from reference.fields import as_bytes, season
+from reference.fields import NO_HEAD, NO_WORDS, as_bytes, season
 from sheets.forms import words_to_text
 from text_faults import UNKNOWN
 
 SHEETS = 60
 # Why there is no text of the sheets that the planner refuses.
 NO_TEXT = {
-    "none": "word 0: the sheet ends where the number of stations is due (refusal 1)",
     "zeros": "word 0: a word of kind 0 where the number of stations is due, a word of kind 1 (refusal 1)",
+    "thirteen": "word 0: 13 stations; a field has at most 12 (refusal 1)",
     "head": "word 1: the sheet ends where the number of spots of station 0 is due (refusal 2)",
     "long": "word 16000: the planner takes 16,000 words at most (refusal 10)",
 }
@@ -55,12 +55,13 @@ def check_there_and_back(checks, folder, name, sheets):
 def check_round_trips(checks, folder):
     rng = random.Random("seasons there and back")
     all_sheets = [as_bytes(fields.sheet(*round_trips.random_sheet(rng))) for _ in range(SHEETS)]
-    all_sheets += [as_bytes(fields.sheet(places, entries)) for places, entries in round_trips.limits().values()]
+    all_sheets += [as_bytes(fields.sheet(places, entries)) for places, entries in round_trips.limits().values()] + [NO_WORDS] * 2
     check_there_and_back(checks, folder, "random sheets", all_sheets)
     made = folder / "examples"
     checks.answers(["season", "unpack", "--text", "examples/three.season", str(made)], b"", b"")
     checks.answers(["season", "pack", *map(str, sorted(made.iterdir()))], b"", content("three.season"))
     check_there_and_back(checks, folder, "one sheet", [content("corner.sheet")])
+    check_there_and_back(checks, folder, "a sheet of no words", [NO_WORDS])
     checks.same("no sheets unpacked", called(["season", "unpack", "-", str(folder / "none")], b""), (0, b"", ""))
     checks.same("the files of no sheets", contents(folder / "none"), {})
 
@@ -85,7 +86,7 @@ def check_no_text(checks, folder):
 
 def check_read_as_text(checks, folder):
     """Words that read as text are named, with text asked for or not, since they do not pack again to the same season."""
-    sheets = [b"", *(sheet for sheet, _ in READ_AS_TEXT), *READ_AS_WORDS]
+    sheets = [NO_HEAD, *(sheet for sheet, _ in READ_AS_TEXT), *READ_AS_WORDS]
     for at, options in enumerate([[], ["--text"]]):
         made = folder / f"read-{at}"
         status, printed, said = called(["season", "unpack", *options, "-", str(made)], season(sheets))

@@ -17,13 +17,12 @@ TWO = [words.head(2), words.size(1), *PLACE, words.size(2), *PLACE, *PLACE]
 
 
 def head_cases():
-    yield [], 0, "the sheet ends where the number of stations is due (refusal 1)"
     yield [words.size(1)], 0, "a word of kind 2 where the number of stations is due, a word of kind 1 (refusal 1)"
     for first in [words.forbidden(), words.high_weight(1)]:
         yield [first], 0, (f"a word of kind {words.kind_of(first)} where the number of stations is due, "
                            "a word of kind 1 (refusal 1)")
-    for stations in [0, 13, 1 << 4, 1 << 27 | 1]:
-        yield [words.head(stations)], 0, f"{stations} stations; a field has 1 to 12 (refusal 1)"
+    for stations in [13, 1 << 4, 1 << 27, 1 << 27 | 1]:
+        yield [words.head(stations)], 0, f"{stations} stations; a field has at most 12 (refusal 1)"
 
 
 def station_cases():
@@ -65,6 +64,22 @@ def entry_cases():
            "station 0 comes after station 1; the stations of a combination must rise (refusal 3)")
 
 
+def no_station_cases():
+    """A head of 0, behind which no word has a station."""
+    constant, others = words.cost(1), [words.head(0), words.size(1), words.easting(0), words.high_weight(1)]
+    for station in (0, 11):
+        reason = f"there is no station {station}; the field has none (refusal 3)"
+        yield [words.head(0), words.binding(station, 0), constant], 1, reason
+        yield [words.head(0), constant, words.forbidden(), words.binding(station, 7)], 3, reason
+    for taken in others:
+        yield [words.head(0), constant, taken], 2, (
+            f"a word of kind {words.kind_of(taken)} among the entries, which have pairs (3) and then "
+            "a cost (4) or a forbidden word (11) (refusal 3)")
+    yield [words.head(0), constant, words.cost(65_536)], 2, "a cost of 65,536; at most 65,535 (refusal 4)"
+    yield [words.head(0)] + [constant] * 4_097, 4_097, (
+        "more than 4,096 entries; the 0 legs between neighbouring stations count first (refusal 5)")
+
+
 def forbidden_cases():
     """Forbidden words with a set bit, wherever an entry ends, also where they would be the 4,097th."""
     for unnamed, shown in [(1, "1"), (65_535, "65,535"), (1 << 27, "134,217,728"), ((1 << 28) - 1, "268,435,455")]:
@@ -104,7 +119,7 @@ def length_cases():
 def run(checks):
     for data, at, reason in length_cases():
         checks.refuses("text", data, f"word {at}: {reason}")
-    for cases in (head_cases, station_cases, entry_cases, forbidden_cases, count_cases, instance_cases):
+    for cases in (head_cases, station_cases, entry_cases, no_station_cases, forbidden_cases, count_cases, instance_cases):
         for source, at, reason in cases():
             data = fields.as_bytes(source)
             checks.refuses("text", data, f"word {at}: {reason}")

@@ -24,7 +24,7 @@ open_input() {
 }
 
 # Whether a file holds text. Words that begin with a head have a control byte at place 3, and words of nearly every kind have zero bytes; what
-# is shorter than a word is no text with a station in it. tools/sheets/forms.py has the same rule in Python, which need not be there.
+# is shorter than a word is too short for a line of a sheet. tools/sheets/forms.py has the same rule in Python, which need not be there.
 is_text() {
     local strange
     [ "$(head -c 4 "$1" | wc -c)" -eq 4 ] || return 1

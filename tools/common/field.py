@@ -8,7 +8,7 @@ MAX_SIZE = 8
 def spot_fault(sizes, variable, value):
     """Why there is no such spot, or None where there is."""
     if variable >= len(sizes):
-        return f"there is no station {variable}; the last one is {len(sizes) - 1}"
+        return f"there is no station {variable}; " + (f"the last one is {len(sizes) - 1}" if sizes else "the field has none")
     if value >= sizes[variable]:
         return f"station {variable} has no spot {value}; its last one is {sizes[variable] - 1}"
     return None

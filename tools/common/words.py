@@ -65,8 +65,8 @@ class Reader:
     def take_stations(self, number):
         """How many stations the head names."""
         stations = self.take_kind(HEAD, number, "the number of stations")
-        if not 1 <= stations <= MAX_VARIABLES:
-            self.refuse(number, f"{stations} stations; a field has 1 to {MAX_VARIABLES}")
+        if stations > MAX_VARIABLES:
+            self.refuse(number, f"{stations} stations; a field has at most {MAX_VARIABLES}")
         return stations
 
     def take_spots(self, station, number):

@@ -28,6 +28,7 @@ class Entry(NamedTuple):
 class Sheet(NamedTuple):
     places: tuple       # for each variable, the (easting, northing) in centimetres of each of its values
     entries: tuple      # in the order written, repeats kept
+    headed: bool        # False for a sheet of no words, which is a field without variables as one with a head of 0 is
 
 
 def sizes_of(places):

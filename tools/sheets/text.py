@@ -11,14 +11,16 @@
     forbidden 1/1           # a spot that must not be cored
     forbidden 0/0 1/0       # a combination of spots that no plan may have
 
-Stations come first. Names, comments, blank lines and indentation have no words.
+Stations come first. A field without any has the line `stations 0` in their place, and costs without spots may follow. A text
+with none of these lines is a sheet of no words, which is such a field too. Names, comments, blank lines and indentation have no
+words.
 """
 
 import re
 
 from common.fault import Fault
-from common.field import MAX_SIZE, MAX_VARIABLES
-from common.lines import Lines
+from common.field import MAX_SIZE
+from common.stations import NO_STATIONS, FieldLines
 
 from .sheet import (CLOSING_WORDS, FORBIDDEN, HEAD_WORDS, MAX_COORDINATE, MAX_COST, MAX_WORDS, SPOT_WORDS, STATION_WORDS, Entry,
                     Sheet, binding_fault, entry_fault, instance_fault, sizes_of)
@@ -26,10 +28,12 @@ from .sheet import (CLOSING_WORDS, FORBIDDEN, HEAD_WORDS, MAX_COORDINATE, MAX_CO
 # Nine digits are above every limit.
 METRES = re.compile(r"(-?)([0-9]{1,9})(?:\.([0-9]{1,2}))?")
 BINDING = re.compile("([0-9]{1,9})/([0-9]{1,9})")
+# The text of a sheet of no words is a comment, so that its file is not taken for one that was lost.
+NO_WORDS = "# no words: a field with no stations"
 
 
 def write_text(sheet):
-    lines = []
+    lines = [] if sheet.places else [NO_STATIONS if sheet.headed else NO_WORDS]
     for variable, values in enumerate(sheet.places):
         lines.append(f"station {variable}")
         for value, (east, north) in enumerate(values):
@@ -55,7 +59,7 @@ def read_text(text):
     return Draft.read(text)
 
 
-class Draft(Lines):
+class Draft(FieldLines):
     """The sheet as far as its lines were read."""
 
     def __init__(self):
@@ -66,14 +70,15 @@ class Draft(Lines):
         self.words = HEAD_WORDS
 
     def takers(self):
-        return {"station": self.take_station, "spot": self.take_spot, "cost": self.take_cost, "forbidden": self.take_forbidden}
+        return {"station": self.take_station, "spot": self.take_spot, "stations": self.take_stations,
+                "cost": self.take_cost, "forbidden": self.take_forbidden}
 
     def take_station(self, parts):
         if len(parts) not in (1, 2):
             self.refuse("a station is written as 'station NUMBER', or 'station NUMBER NAME' with a name of one word")
         self.require_no_entries("station")
         self.close_station()
-        self.take_number("station", parts[0], len(self.places), MAX_VARIABLES)
+        self.take_station_number(parts[0])
         self.station_line = self.line
         self.places.append([])
         self.take_words(STATION_WORDS)
@@ -104,8 +109,7 @@ class Draft(Lines):
         self.take_entry(parts, FORBIDDEN)
 
     def take_entry(self, spots, cost):
-        if not self.places:
-            self.refuse("a cost or a forbidden combination before the first station")
+        self.require_stations("a cost or a forbidden combination before the first station")
         self.close_station()
         sizes = sizes_of(self.places)
         bindings = []
@@ -122,10 +126,8 @@ class Draft(Lines):
             self.refuse(reason)
 
     def finished(self):
-        if not self.places:
-            self.refuse("the text ends without a station")
         self.close_station()
-        return Sheet(tuple(tuple(values) for values in self.places), tuple(self.entries))
+        return Sheet(tuple(tuple(values) for values in self.places), tuple(self.entries), self.stations is not None)
 
     def require_no_entries(self, what):
         """Stations have to be known before a cost names them, and their words stand in front."""

@@ -31,7 +31,7 @@ CUT_WORD = f" (refusal {BAD_HEAD})"
 
 
 def sheet_words(sheet):
-    written = [word(HEAD, len(sheet.places))]
+    written = [word(HEAD, len(sheet.places))] if sheet.headed else []
     for values in sheet.places:
         written.append(word(SIZE, len(values)))
         for east, north in values:
@@ -62,13 +62,15 @@ def read_words(data):
         raise too_long()
     whole = whole_words(len(data), CUT_WORD)
     reader = Reader(unpacked(data), "sheet")
-    places = tuple(read_places(reader, variable) for variable in range(reader.take_stations(BAD_HEAD)))
+    headed = not reader.ended()
+    stations = reader.take_stations(BAD_HEAD) if headed else 0
+    places = tuple(read_places(reader, variable) for variable in range(stations))
     sizes = sizes_of(places)
     entries = read_entries(reader, sizes)
     reason = instance_fault(sizes, whole)
     if reason:
         raise Fault(f"word {MAX_WORDS - instance_surplus(sizes)}", f"{reason} (refusal {TOO_LONG})")
-    return Sheet(places, entries)
+    return Sheet(places, entries, headed)
 
 
 def read_places(reader, variable):

@@ -7,13 +7,14 @@
     row 0 weight 5 unless 0/1,2 1/0     # a plan costs 5 unless it has spot 1 or 2 of station 0 or spot 0 of station 1
     row 1 weight 7                      # every plan costs 7
 
-They come in this order. Comments, blank lines and indentation have no words.
+They come in this order; a table without stations has the line `stations 0` in their place. Comments, blank lines and indentation
+have no words.
 """
 
 import re
 
-from common.field import MAX_SIZE, MAX_VARIABLES
-from common.lines import Lines
+from common.field import MAX_SIZE
+from common.stations import NO_STATIONS, FieldLines
 
 from .table import EITHER, MAX_ROWS, MAX_WORDS, Row, Table, repeated_fault, rows_start, sign_fault, spots_in
 
@@ -22,7 +23,7 @@ SIGN = re.compile("([0-9]{1,9})/([0-9]{1,9}(?:,[0-9]{1,9})*)")
 
 def write_text(table):
     lines = [f"form {form_text(table.forms)}", f"words {table.words}  # {room_text(table)}"]
-    lines += [f"station {station} spots {size}" for station, size in enumerate(table.sizes)]
+    lines += [f"station {station} spots {size}" for station, size in enumerate(table.sizes)] or [NO_STATIONS]
     lines += [row_text(number, row) for number, row in enumerate(table.rows)]
     return "".join(line + "\n" for line in lines)
 
@@ -45,7 +46,7 @@ def read_text(text):
     return Draft.read(text)
 
 
-class Draft(Lines):
+class Draft(FieldLines):
     """The table as far as its lines were read."""
 
     digits = 17     # the greatest weight has as many
@@ -59,12 +60,13 @@ class Draft(Lines):
         self.places = {}    # of the rows, by their signs
 
     def takers(self):
-        return {"form": self.take_form, "words": self.take_words, "station": self.take_station, "row": self.take_row}
+        return {"form": self.take_form, "words": self.take_words, "station": self.take_station, "stations": self.take_stations,
+                "row": self.take_row}
 
     def take_form(self, parts):
         if self.forms:
             self.refuse("a second form")
-        self.require_none("form", self.sizes or self.words is not None)
+        self.require_none("form", self.words is not None)
         named = {form_text(forms): forms for forms in [(form,) for form in EITHER] + [EITHER]}
         if " ".join(parts) not in named:
             self.refuse("a form is written as 'form five', 'form six' or, for a table without rows, 'form five or six'")
@@ -75,22 +77,25 @@ class Draft(Lines):
             self.refuse("the words of a table are written as 'words NUMBER'")
         if self.words is not None:
             self.refuse("words a second time")
-        self.require_none("words", self.sizes)
+        self.require_none("words", self.stations is not None)
         self.words = self.whole_number("words", parts[0], MAX_WORDS)
+
+    def take_stations(self, parts):
+        self.require_form()
+        super().take_stations(parts)
 
     def take_station(self, parts):
         if len(parts) != 3 or parts[1] != "spots":
             self.refuse("a station is written as 'station NUMBER spots NUMBER'")
         self.require_form()
         self.require_none("station", self.rows)
-        self.take_number("station", parts[0], len(self.sizes), MAX_VARIABLES)
+        self.take_station_number(parts[0])
         self.sizes.append(self.whole_number("spots", parts[2], MAX_SIZE, lowest=1))
 
     def take_row(self, parts):
         if parts[1:2] != ["weight"] or parts[3:4] not in ([], ["unless"]) or len(parts) in (2, 4):
             self.refuse("a row is written as 'row NUMBER weight NUMBER', or with 'unless STATION/SPOT,SPOT.. ..' behind it")
-        if not self.sizes:
-            self.refuse("a row before the first station")
+        self.require_stations("a row before the first station")
         if len(self.forms) > 1:
             self.refuse(f"a row in a table whose form is {form_text(EITHER)}; with rows it is one of the two")
         self.take_number("row", parts[0], len(self.rows), MAX_ROWS)
@@ -127,8 +132,7 @@ class Draft(Lines):
 
     def finished(self):
         self.require_form()
-        if not self.sizes:
-            self.refuse("the text ends without a station")
+        self.require_stations("the text ends without a station")
         self.require_room()
         words = rows_start(len(self.sizes)) + self.forms[0].row_words * len(self.rows) if self.words is None else self.words
         return Table(self.forms if self.rows else EITHER, tuple(self.sizes), tuple(self.rows), words)

@@ -1,8 +1,10 @@
-"""Chosen inputs that random ones hardly meet: limits and half metres reached exactly, and two faults at once."""
+"""Chosen inputs that random ones hardly meet: limits and half metres reached exactly, two faults at once, fields without
+variables."""
 
 from itertools import product
 
 import calls
+import empty_fields
 from reference import fields, words
 from reference.limits import FORBIDDEN_WEIGHT, MAX_ENTRIES, MAX_ROWS, MAX_WEIGHT
 from reference.tables import Row, table_words
@@ -10,15 +12,16 @@ from reference.tables import Row, table_words
 
 def chosen_calls():
     return (entry_calls() + forbidden_calls() + full_calls() + faulty_tables() + weight_words() + heavy_and_full()
-            + heavy_plans() + completion_calls() + heavy_completions() + claim_calls() + forbidden_claims() + distance_calls())
+            + heavy_plans() + completion_calls() + heavy_completions() + claim_calls() + forbidden_claims() + distance_calls()
+            + empty_calls())
 
 
 def entry_calls():
     """As many entries as are allowed, one more, and one more whose cost or binding is faulty."""
     behind = [[], [words.cost(0)], [words.cost(65_536)], [words.binding(0, 2), words.cost(65_536)], [words.forbidden()],
               [words.forbidden(1)]]
-    return [calls.encode(fields.instance([2], [([(0, 0)], cost)] * MAX_ENTRIES) + more, [0] * 20)
-            for cost in (1, FORBIDDEN_WEIGHT) for more in behind]
+    return [calls.encode(fields.instance(sizes, [(bindings, cost)] * MAX_ENTRIES) + more, [0] * 20)
+            for sizes, bindings in (([2], [(0, 0)]), ([], [])) for cost in (1, FORBIDDEN_WEIGHT) for more in behind]
 
 
 def forbidden_calls():
@@ -127,3 +130,9 @@ def distance_calls():
     sheet = fields.sheet([[(0, 0)]], [])
     return [calls.readout(sheet, [0], 0, words.easting(50 * halves + more), words.northing(aside))
             for halves in (1, 2, 3, 4, 199, 200, 19_998, 19_999) for more in (-1, 0, 1) for aside in (0, 1)]
+
+
+def empty_calls():
+    """Fields without variables through every call: number and fields are those that are due by the papers."""
+    made = [(asked.due, getattr(calls, asked.name)(*asked.arguments)) for asked in empty_fields.every_call()]
+    return [call._replace(expected=due + call.expected[len(due):]) for due, call in made]

@@ -16,7 +16,7 @@ NEAR = [0, 1, 2, 49, 50, 51, 100, 150, 5_000, MAX_COORDINATE]
 
 def calls_of_round(rng):
     """One call of each kind on inputs from one field, and more where the state matters."""
-    sizes = [rng.randint(1, 4) for _ in range(rng.randint(1, 5))]
+    sizes = [rng.randint(1, 4) for _ in range(rng.randint(0, 5))]
     if rng.random() < 0.1:
         sizes = [rng.choice([1, 2, 2, 8]) for _ in range(12)]
     sheet = random_sheet(rng, sizes)
@@ -30,7 +30,7 @@ def calls_of_round(rng):
 
 def random_assignment(rng, sizes):
     assignment = [rng.randrange(size) for size in sizes]
-    if rng.random() < 0.1:
+    if assignment and rng.random() < 0.1:
         assignment[rng.randrange(len(sizes))] = rng.choice([8, 255])
     if rng.random() < 0.1:
         assignment += [0]
@@ -46,7 +46,7 @@ def random_entries(rng, sizes, most):
 
 
 def random_instance(rng, sizes):
-    return fields.instance(sizes, random_entries(rng, sizes, 8 * len(sizes)))
+    return fields.instance(sizes, random_entries(rng, sizes, 4 + 8 * len(sizes)))
 
 
 def random_coordinate(rng):
@@ -60,7 +60,7 @@ def random_sheet(rng, sizes):
 
 def random_readout(rng, sizes):
     """Assignment, variable and position."""
-    variable = rng.randrange(len(sizes) + 1) if rng.random() < 0.2 else rng.randrange(len(sizes))
+    variable = rng.randrange(len(sizes) + 1) if rng.random() < 0.2 else rng.randrange(max(1, len(sizes)))
     easting, northing = words.easting(random_coordinate(rng)), words.northing(random_coordinate(rng))
     if rng.random() < 0.2:
         easting, northing = rng.choice([(northing, easting), (easting, words.northing(MAX_COORDINATE + 1)),

@@ -7,3 +7,4 @@ pub mod Telling
 pub mod Wanting
 pub mod Lasting
 pub mod Witness
+pub mod Empty

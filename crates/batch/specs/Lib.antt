@@ -3,3 +3,4 @@ pub mod Season
 pub mod Feeding
 pub mod Theorems
 pub mod Witness
+pub mod Empty

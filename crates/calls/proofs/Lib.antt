@@ -13,3 +13,5 @@ pub mod Asking
 pub mod Driving
 pub mod WordCases
 pub mod Witness
+pub mod Empty
+pub mod EmptyCases

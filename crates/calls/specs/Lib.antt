@@ -9,3 +9,4 @@ pub mod Driver
 pub mod Slices
 pub mod WordCases
 pub mod Witness
+pub mod Empty

@@ -21,4 +21,4 @@ module _ (inst : List ℕ) (e : instanceFault inst ≡ 0) where
 
 -- a head with the number of these sizes is one
 pub head-given : {ds : List ℕ} → FieldSizes ds → headIn (headWord (length ds)) ≡ some (length ds)
-head-given {ds} s = head-is (headWord (length ds)) (length ds) (omega (arith, s .most)) (omega (arith, s .most)) (s .least) (s .most)
+head-given {ds} s = head-is (headWord (length ds)) (length ds) (omega (arith, s .most)) (omega (arith, s .most)) (s .most)

@@ -2,3 +2,4 @@
 pub mod Costing
 pub mod Pricing
 pub mod Order
+pub mod Empty

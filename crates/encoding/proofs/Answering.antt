@@ -124,7 +124,6 @@ module _ (ws t : List ℕ) (read : Validated) (r : read ≡ validateCall ws) whe
               let k = instance-known in
               record {
                 proper = words-proper;
-                within = k .within;
                 costs = k .costs;
                 laid = rw variables-are at (laid-words t₁ (sizesOf ws) [] words-own (omega (arith, variables-are, cleared-long)));
                 room = rw rows-long (omega (arith, cleared-long, rows-fit));

@@ -1,7 +1,7 @@
 -- The encoding word by word: one more word is one more step of the fold, and what each step does to the rows: their signs, number, weights and raw rows.
 use Prim.Native.Nat.{ℕ, zero, suc, _+_, _-_, _^_, _<_, _≤_}
 use native.Mathlib.Omega.{arith}
-use mathlib.Core.Path.{_≡_, refl, ap, _∙_}
+use mathlib.Core.Path.{_≡_, refl, sym, ap, _∙_}
 use mathlib.Core.Bool.{Bool, true, false, not, _&&_, _||_, cond}
 use mathlib.Core.List.{List, [], _∷_, _++_}
 use lib.ListN.{length, getD, set, take, drop, replicate, length-drop, length-set}
@@ -52,11 +52,18 @@ module _ (fs : List ℕ) where
         rw (n, take-add (i - at) (j - i) (drop at ws), drop-drop (i - at) at ws, p)
         (coded-append nothingCoded (take (i - at) (drop at ws)) (take (j - i) (drop i ws)))
 
-    pub coded-whole : codedTo fs at (length ws) ws ≡ codedBy fs nothingCoded (drop at ws)
+    -- from the end of the words on every index has gone through them all
+    coded-past : (i : ℕ) → length ws ≤ i → codedTo fs at i ws ≡ codedBy fs nothingCoded (drop at ws)
     unfolding codedTo
-    coded-whole =
-        let h : length (drop at ws) ≤ length ws - at = simp length-drop (omega arith) in
-        rw (take-all (length ws - at) (drop at ws) h)
+    coded-past i l =
+        let h : length (drop at ws) ≤ i - at = simp length-drop (omega arith) in
+        rw (take-all (i - at) (drop at ws) h)
+
+    pub coded-whole : codedTo fs at (length ws) ws ≡ codedBy fs nothingCoded (drop at ws)
+    coded-whole = coded-past (length ws) (omega arith)
+
+    pub rows-whole : (i : ℕ) → length ws ≤ i → rowsTo fs at i ws ≡ rowsTo fs at (length ws) ws
+    rows-whole i l = ap (λ (st : Coded). st .rows) (coded-past i l ∙ sym coded-whole)
 
 -- ---- the rows behind a word
 

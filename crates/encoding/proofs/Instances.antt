@@ -19,7 +19,6 @@ use Rattle.fields.specs.Limits.{forbiddenCost}
 use Rattle.fields.specs.Front.{goodSizes}
 use Rattle.fields.specs.Entries.{EachSize, Priced, nilEach, consEach, entriesFrom}
 use Rattle.fields.specs.Padding.{padded, lacking}
-use Rattle.fields.proofs.Fronts.{good-long}
 use Rattle.fields.proofs.Sizes.{each-positive}
 use Rattle.fields.proofs.Costs.{priced-bounded}
 use Rattle.fields.proofs.Padding.{padded-length, sizes-at, sizes-padded}
@@ -100,10 +99,8 @@ total-bounded (e ∷ es) (consEach h r) = omega (arith, total-bounded es r, pric
 -- what is known of an accepted instance over n variables
 pub record Known (ws : List ℕ) (n : ℕ) : Type 0 where
   pub variables : length (sizesOf ws) ≡ n
-  pub some : 1 ≤ n
   pub few : n ≤ 12
   pub sizes : EachSize (sizesOf ws)
-  pub within : n + 1 ≤ length ws
   pub proper : AllProper (map full (padded (sizesOf ws))) (n + 1) ws
   pub costs : costsIn (drop (n + 1) ws) ≤ maxWeight
   pub rows : rowsTo (map full (padded (sizesOf ws))) (n + 1) (length ws) ws ≡ wideRows (lacking (sizesOf ws)) (encodedRows ws)
@@ -117,17 +114,14 @@ known ws e =
     let acc = faultlessIsAccepted ws e in
     let v : length (sizesOf ws) ≡ n = sizes-number ws n h g in
     let s : EachSize (sizesOf ws) = acc .sizes .each in
-    let few : length (sizesOf ws) ≤ 12 = omega (arith, v, b .1) in
+    let few : length (sizesOf ws) ≤ 12 = omega (arith, v, b .0) in
     let es = entries-are ws n h in
-    let long : n ≤ length ws - 1 = rw length-drop at (good-long n (drop 1 ws) g) in
     let made = rw (es) at (acc .entries) in
     rw v
     (record {
       variables = v;
-      some = b .0;
-      few = b .1;
+      few = b .0;
       sizes = s;
-      within = omega (arith, b .2);
       proper =
           record {
             each =

@@ -23,7 +23,7 @@ use Rattle.clause.specs.declared.Clause.{Clause}
 use Rattle.clause.specs.Packed.{signsOf, FitsBlocks, Holds}
 use Rattle.table.specs.Valid.{hasSigns}
 use Rattle.encoding.specs.Coding.{Proper, AllProper, positives, signsAfter, grown, Coded, nothingCoded, codedAfter, codedTo, rowsTo}
-use Rattle.encoding.proofs.Coding.{coded-start, coded-next, coded-rest, coded-whole, length-grown, has-grown, rows-few, has-stays}
+use Rattle.encoding.proofs.Coding.{coded-start, coded-next, coded-rest, coded-whole, rows-whole, length-grown, has-grown, rows-few, has-stays}
 
 -- ---- one word
 
@@ -152,12 +152,11 @@ module _ (w k : ℕ) (s : Bool) (e : k ≡ costOf w) where
 
 pub record Counted (fs : List ℕ) (at : ℕ) (ws : List ℕ) (x : Clause) (count i : ℕ) : Type 0 where
   pub «open» : Open fs at ws x i
-  pub upto : i ≤ length ws
   pub few : count ≤ i
   pub is : count ≡ length (rowsTo fs at i ws)
 
-pub counted-start : (fs : List ℕ) (at : ℕ) (ws : List ℕ) (x : Clause) → at ≤ length ws → Holds x (replicate 12 0) → Counted fs at ws x 0 at
-counted-start fs at ws x l h = record { «open» = open-start fs at ws x h; upto = l; few = omega arith; is = sym (ap (λ (st : Coded). length (st .rows)) (coded-start fs at ws)) }
+pub counted-start : (fs : List ℕ) (at : ℕ) (ws : List ℕ) (x : Clause) → Holds x (replicate 12 0) → Counted fs at ws x 0 at
+counted-start fs at ws x h = record { «open» = open-start fs at ws x h; few = omega arith; is = sym (ap (λ (st : Coded). length (st .rows)) (coded-start fs at ws)) }
 
 module _ (fs : List ℕ) (at : ℕ) (ws : List ℕ) (x : Clause) (count i : ℕ) (u : Counted fs at ws x count i) where
   pub counted-next : i < length ws → (w : ℕ) → w ≡ getD ws i 0 → (m : ℕ)
@@ -168,7 +167,6 @@ module _ (fs : List ℕ) (at : ℕ) (ws : List ℕ) (x : Clause) (count i : ℕ)
       let is = u .is in
       record {
         «open» = open-next fs at ws x i (u .«open») h w e y g;
-        upto = omega arith;
         few = omega arith;
         is =
             ap₂ _+_ is f
@@ -176,7 +174,7 @@ module _ (fs : List ℕ) (at : ℕ) (ws : List ℕ) (x : Clause) (count i : ℕ)
       }
 
   pub counted-end : length ws ≤ i → count ≡ length (rowsTo fs at (length ws) ws)
-  counted-end h = let upto = u .upto in let e : i ≡ length ws = omega arith in rw (← e) (u .is)
+  counted-end h = u .is ∙ ap length (rows-whole fs at ws i h)
 
 -- ---- room for the rows
 

@@ -21,7 +21,7 @@ use Rattle.table.proofs.Twelve.{Twelve}
 use Rattle.table.proofs.Carried.{AllCarried, nilCarried, consCarried}
 use Rattle.encoding.specs.Coding.{costsIn, signsAfter, grown, Coded, nothingCoded, codedTo, rowsTo, Encodable}
 use Rattle.encoding.proofs.Merging.{heft, heft-at, carried-twelve, added-grown}
-use Rattle.encoding.proofs.Coding.{coded-start, coded-rest, coded-whole, heft-grown, rows-grow, heft-coded, twelve-to}
+use Rattle.encoding.proofs.Coding.{coded-start, coded-rest, coded-whole, rows-whole, heft-grown, rows-grow, heft-coded, twelve-to}
 use Rattle.encoding.proofs.Looking.{Open, open-start, open-next, rows-next}
 
 -- ---- the words
@@ -34,7 +34,6 @@ carried-weight (consCarried q t) (suc k) h = carried-weight t k (le-of-suc-le-su
 -- at word i the table carries the rows of the words passed
 pub record Written (fs : List ℕ) (at : ℕ) (ws t₀ : List ℕ) (base : ℕ) (x : Clause) (count : ℕ) (t : List ℕ) (i : ℕ) : Type 0 where
   pub «open» : Open fs at ws x i
-  pub upto : i ≤ length ws
   pub left : Left t₀ base t (map rawOf (rowsTo fs at i ws))
   pub is : count ≡ length (rowsTo fs at i ws)
 
@@ -44,7 +43,6 @@ module _ (fs : List ℕ) (at : ℕ) (ws t₀ : List ℕ) (base : ℕ) (twelve : 
       let none = ap (λ (st : Coded). st .rows) (coded-start fs at ws) in
       record {
         «open» = open-start fs at ws x h;
-        upto = E .within;
         left = rw (ap (map rawOf) none) (left-refl (E .laid));
         is = sym (ap length none);
       }
@@ -75,7 +73,7 @@ module _ (fs : List ℕ) (at : ℕ) (ws t₀ : List ℕ) (base : ℕ) (twelve : 
       next-rows = rows-next fs at ws x i (W .«open») h w e ∙ ap (λ k. grown k (signsOf x) (rowsTo fs at i ws)) (sym g)
 
       here-carried : AllCarried (rowsTo fs at i ws)
-      here-carried = rows-carried i (W .«open» .from) (W .upto)
+      here-carried = rows-carried i (W .«open» .from) (omega arith)
 
       next-raws : added (rawsIn t base count) x c ≡ map rawOf (rowsTo fs at (i + 1) ws)
       next-raws =
@@ -88,7 +86,6 @@ module _ (fs : List ℕ) (at : ℕ) (ws t₀ : List ℕ) (base : ℕ) (twelve : 
       next-heft : heft (rowsTo fs at i ws) + c ≤ maxWeight
       next-heft =
           let from = W .«open» .from in
-          let upto = W .upto in
           omega (arith, ap heft next-rows ∙ heft-grown c (signsOf x) (rowsTo fs at i ws), heft-bounded (i + 1) (omega arith) (omega arith))
 
       pub addable : Addable t base count x c
@@ -113,11 +110,10 @@ module _ (fs : List ℕ) (at : ℕ) (ws t₀ : List ℕ) (base : ℕ) (twelve : 
       written-next t′ r (l, n) y k =
           record {
             «open» = open-next fs at ws x i (W .«open») h w e y k;
-            upto = omega arith;
             left = left-trans (W .left) (rw next-raws at l);
             is = n ∙ next-length;
           }
 
     pub written-end : length ws ≤ i
         → Left t₀ base t (map rawOf (rowsTo fs at (length ws) ws)) × (count ≡ length (rowsTo fs at (length ws) ws))
-    written-end h = let upto = W .upto in let e : i ≡ length ws = omega arith in rw (← e) (W .left, W .is)
+    written-end h = let e = rows-whole fs at ws i h in rw (← e) (W .left, W .is)

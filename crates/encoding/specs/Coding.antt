@@ -72,7 +72,6 @@ rowsTo fs at i ws = codedTo fs at i ws .rows
 -- the words can be encoded: they are proper, their costs fit a weight, and the table is empty and has room for the rows
 pub record Encodable (fs : List ℕ) (at : ℕ) (ws : List ℕ) (t : List ℕ) (base : ℕ) : Type 0 where
   pub proper : AllProper fs at ws
-  pub within : at ≤ length ws
   pub costs : costsIn (drop at ws) ≤ maxWeight
   pub laid : Laid t base []
   pub room : base + rowWidth * length (rowsTo fs at (length ws) ws) ≤ length t

@@ -112,7 +112,7 @@ fn fresh(instance: &[u32], at: usize, end: usize, fulls: Clause, pending: Clause
 
 // The number of rows of the encoding, counted without writing.
 fn distinct(instance: &[u32], at: usize, fulls: Clause) -> usize
-    requires { ⌜ (at ≤ length (now instance)) × FitsBlocks fulls × AllProper (signsOf fulls) at (now instance) ⌝ }
+    requires { ⌜ FitsBlocks fulls × AllProper (signsOf fulls) at (now instance) ⌝ }
     ensures { λ r. ⌜ r ≡ length (rowsTo (signsOf fulls) at (length (now (instance .entry))) (now (instance .entry))) ⌝ }
 {
     let mut pending = Clause::empty();
@@ -129,7 +129,7 @@ fn distinct(instance: &[u32], at: usize, fulls: Clause) -> usize
 
 // The rows of the encoding are at most `room`. They are counted only where the words of cost above 0 are more than that.
 fn has_room(instance: &[u32], at: usize, fulls: Clause, room: usize) -> bool
-    requires { ⌜ (at ≤ length (now instance)) × FitsBlocks fulls × AllProper (signsOf fulls) at (now instance) ⌝ }
+    requires { ⌜ FitsBlocks fulls × AllProper (signsOf fulls) at (now instance) ⌝ }
     ensures { λ r. ⌜ r ≡ leb (length (rowsTo (signsOf fulls) at (length (now (instance .entry))) (now (instance .entry)))) room ⌝ }
 {
     if positive(instance, at) <= room {

@@ -36,30 +36,30 @@ above low k high h = go (leb low k)
 
 -- ---- a head
 
-pub head-some : (w n : ℕ) → headIn w ≡ some n → (kindOf w ≡ 1) × (payloadOf w ≡ n) × (1 ≤ n) × (n ≤ maxVariables)
+pub head-some : (w n : ℕ) → headIn w ≡ some n → (kindOf w ≡ 1) × (payloadOf w ≡ n) × (n ≤ maxVariables)
 unfolding headIn
-head-some w n e = go (eqb (kindOf w) 1) (between 1 (payloadOf w) maxVariables) refl refl e
+head-some w n e = go (eqb (kindOf w) 1) (leb (payloadOf w) maxVariables) refl refl e
   where
-    go : (x y : Bool) → eqb (kindOf w) 1 ≡ x → between 1 (payloadOf w) maxVariables ≡ y
-        → cond (x && y) (some (payloadOf w)) none ≡ some n → (kindOf w ≡ 1) × (payloadOf w ≡ n) × (1 ≤ n) × (n ≤ maxVariables)
+    go : (x y : Bool) → eqb (kindOf w) 1 ≡ x → leb (payloadOf w) maxVariables ≡ y
+        → cond (x && y) (some (payloadOf w)) none ≡ some n → (kindOf w ≡ 1) × (payloadOf w ≡ n) × (n ≤ maxVariables)
     go true true f g e =
         let p : payloadOf w ≡ n = cc in
-        let (l, h) = range-of 1 (payloadOf w) maxVariables g in
-        (eqb-true (kindOf w) 1 f, p, omega arith, omega arith)
+        let h = leb-true (payloadOf w) maxVariables g in
+        (eqb-true (kindOf w) 1 f, p, omega arith)
     go true false f g e = let z : _≡_ {A = ℕ} 0 1 = cc in absurd (omega arith)
     go false y f g e = let z : _≡_ {A = ℕ} 0 1 = cc in absurd (omega arith)
 
-pub head-is : (w n : ℕ) → kindOf w ≡ 1 → payloadOf w ≡ n → 1 ≤ n → n ≤ maxVariables → headIn w ≡ some n
+pub head-is : (w n : ℕ) → kindOf w ≡ 1 → payloadOf w ≡ n → n ≤ maxVariables → headIn w ≡ some n
 unfolding headIn
-head-is w n k p l h = rw (eq-eqb (kindOf w) 1 k, p, in-range 1 n maxVariables l h)
+head-is w n k p h = rw (eq-eqb (kindOf w) 1 k, p, le-leb n maxVariables h)
 
 pub head-none : (w : ℕ) → eqb (kindOf w) 1 ≡ false → headIn w ≡ none
 unfolding headIn
 head-none w e = rw e
 
-pub head-out : (w n : ℕ) → kindOf w ≡ 1 → payloadOf w ≡ n → between 1 n maxVariables ≡ false → headIn w ≡ none
+pub head-out : (w n : ℕ) → kindOf w ≡ 1 → payloadOf w ≡ n → maxVariables < n → headIn w ≡ none
 unfolding headIn
-head-out w n k p e = rw (eq-eqb (kindOf w) 1 k, p, e)
+head-out w n k p h = rw (eq-eqb (kindOf w) 1 k, p, lt-leb n maxVariables h)
 
 -- ---- a station word
 

@@ -17,8 +17,8 @@ pub each-positive : {ds : List ℕ} → EachSize ds → AllPositive ds
 each-positive nilEach = nilPositive
 each-positive (consEach h r) = consPositive (h .0) (each-positive r)
 
-pub field-sizes : (ds : List ℕ) → 1 ≤ length ds → length ds ≤ maxVariables → EachSize ds → FieldSizes ds
-field-sizes ds h l r = record { least = h; most = l; each = r; positive = each-positive r }
+pub field-sizes : (ds : List ℕ) → length ds ≤ maxVariables → EachSize ds → FieldSizes ds
+field-sizes ds l r = record { most = l; each = r; positive = each-positive r }
 
 pub sizes-each : (k : ℕ) (ws : List ℕ) → goodSizes k ws ≡ true → EachSize (map payloadOf (take k ws))
 unfolding goodSizes

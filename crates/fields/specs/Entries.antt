@@ -37,9 +37,8 @@ pub data Each {A : Type 0} (P : A → Type 0) : List A → Type 0 where
 abbrev pub EachSize : List ℕ → Type 0
 EachSize ds = Each (λ d. (1 ≤ d) × (d ≤ maxValues)) ds
 
--- sizes of a field: 1 to 12 of them, each 1 to 8
+-- sizes of a field: at most 12 of them, each 1 to 8
 pub record FieldSizes (ds : List ℕ) : Type 0 where
-  pub least : 1 ≤ length ds
   pub most : length ds ≤ maxVariables
   pub each : EachSize ds
   pub positive : AllPositive ds

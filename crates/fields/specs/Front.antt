@@ -4,13 +4,13 @@ use mathlib.Core.Bool.{Bool, true, false, not, _&&_, cond}
 use mathlib.Core.List.{List, [], _∷_, map}
 use mathlib.Core.Option.{Option, none, some}
 use lib.ListN.{length}
-use lib.Dec.{eqb}
+use lib.Dec.{eqb, leb}
 use Rattle.words.specs.Layout.{kindOf, payloadOf, headWord, sizeWord}
 use Rattle.fields.specs.Limits.{maxVariables, maxValues, between}
 
--- the number of variables that a head gives, 1 to 12; none if the word is no such head
+-- the number of variables that a head gives, 0 to 12; none if the word is no such head
 unfoldable pub headIn : ℕ → Option ℕ
-headIn w = cond (eqb (kindOf w) 1 && between 1 (payloadOf w) maxVariables) (some (payloadOf w)) none
+headIn w = cond (eqb (kindOf w) 1 && leb (payloadOf w) maxVariables) (some (payloadOf w)) none
 
 -- what follows from a head's number of variables, or what there is without a head
 unfoldable pub headed {ℓ} : {A : Type ℓ} → A → (ℕ → A) → Option ℕ → A

@@ -14,7 +14,7 @@ use Rattle.entries.proofs.Accepting.{entries-accepted}
 use Rattle.entries.proofs.Within.{costs-within}
 use Rattle.input.specs.Instance.{stationsFault, instanceFault, sizesOf, entriesOf}
 use Rattle.input.specs.Accepted.{FaultlessIsAccepted, ForbiddenByWords}
-use Rattle.input.proofs.Validating.{Headed, headed-bounds, headed-payload, headed-by, sizes-are, entries-are, sizes-number, instance-apart}
+use Rattle.input.proofs.Validating.{Headed, withoutWords, headed-bounds, headed-payload, headed-by, sizes-are, entries-are, sizes-number, instance-apart}
 
 -- a test that has to be passed for no fault
 pub passed : (b : Bool) (x y : ℕ) → x ≡ cond b y 2 → x ≡ 0 → (b ≡ true) × (y ≡ 0)
@@ -23,7 +23,7 @@ passed false x y e z = absurd (omega arith)
 
 pub instance-headed : (ws : List ℕ) → instanceFault ws ≡ 0 → (n : ℕ) × Headed ws n
 unfolding instanceFault
-instance-headed [] e = absurd (omega arith)
+instance-headed [] e = (0, withoutWords)
 instance-headed (w ∷ ws) e = headed-by (λ n. stationsFault n [] ws) w ws e
 
 -- its sizes and the words of its entries
@@ -39,7 +39,7 @@ faultlessIsAccepted ws e =
     let (g, f) = instance-passed ws n h e in
     let k = sizes-number ws n h g in
     record {
-      sizes = field-sizes (sizesOf ws) (omega arith) (omega arith) (rw (sizes-are ws n h) (sizes-each n (drop 1 ws) g));
+      sizes = field-sizes (sizesOf ws) (omega arith) (rw (sizes-are ws n h) (sizes-each n (drop 1 ws) g));
       head = k ∙ sym (headed-payload ws n h);
       entries = rw (entries-are ws n h) (entries-accepted (sizesOf ws) 0 (drop (n + 1) ws) (omega arith) f);
     }

@@ -33,15 +33,12 @@ size-other w e = size-missed w (size-none w e)
 
 module _ (w k : ℕ) (read : Word) (e : read ≡ wordOf w) where
   module _ (g : read ≡ Head k) where
-    pub head-low : k < 1 → Fault 1 ≡ headGot w
-    head-low h = let (s, p) = head-kind w k (sym e ∙ g) in head-missed w (head-out w k s p (below 1 k maxVariables h))
-
     pub head-high : maxVariables < k → Fault 1 ≡ headGot w
-    head-high h = let (s, p) = head-kind w k (sym e ∙ g) in head-missed w (head-out w k s p (above 1 k maxVariables h))
+    head-high h = let (s, p) = head-kind w k (sym e ∙ g) in head-missed w (head-out w k s p h)
 
-    pub head-good : 1 ≤ k → k ≤ maxVariables → Number k ≡ headGot w
+    pub head-good : k ≤ maxVariables → Number k ≡ headGot w
     unfolding headGot
-    head-good l h = let (s, p) = head-kind w k (sym e ∙ g) in rw (head-is w k s p l h)
+    head-good h = let (s, p) = head-kind w k (sym e ∙ g) in rw (head-is w k s p h)
 
   module _ (g : read ≡ Size k) where
     pub size-low : k < 1 → Fault 2 ≡ sizeGot w

@@ -1,17 +1,18 @@
 -- The stations of an instance: reading one size after another answers the sizes of all, and the fault of the whole comes apart into that of the stations and that of the entries.
-use Prim.Native.Nat.{ℕ, zero, suc, _+_, _-_, _≤_, _<_}
+use Prim.Native.Nat.{ℕ, zero, suc, _+_, _-_, _≤_, _<_, min}
 use native.Mathlib.Omega.{arith}
 use mathlib.Core.Path.{_≡_, refl, sym, ap, _∙_}
 use mathlib.Core.Bool.{Bool, true, false, not, _&&_, cond}
 use mathlib.Core.List.{List, [], _∷_, _++_, map, append-nil}
-use lib.ListN.{length, take, drop, set, replicate}
+use lib.ListN.{length, take, drop, set, replicate, length-drop}
 use lib.Seq.{append-snoc, drop-drop}
 use lib.Dec.{eqb}
 use borrow.Author.Tests.{eqb-false, ne-eqb, ltb-true, ltb-false}
 use Rattle.words.specs.Layout.{payloadOf}
 use Rattle.fields.specs.Limits.{maxVariables, maxValues}
 use Rattle.fields.specs.Front.{sizeIn, goodSizes}
-use Rattle.fields.proofs.Fronts.{size-some}
+use Rattle.fields.specs.Padding.{padded}
+use Rattle.fields.proofs.Fronts.{size-some, good-long}
 use Rattle.reader.specs.declared.word.Next.{Next}
 use Rattle.reader.specs.declared.word.Next.the-variants.{End}
 use Rattle.reader.specs.declared.word.Next.the-variants.{Word as Found}
@@ -22,7 +23,7 @@ use Rattle.entries.specs.Entries.{entriesFault}
 use Rattle.input.specs.declared.Stations.{Stations}
 use Rattle.input.specs.declared.Sizing.{Sizing}
 use Rattle.input.specs.Instance.{stationsFault}
-use Rattle.input.specs.Phases.{sizeGot, sizeNext, sizesRead, refusedStations, sizeFrom, sizesLeft, sizingOf, stoppedSizing, sizeBy, sizeOn, stationsIn}
+use Rattle.input.specs.Phases.{sizeGot, sizeNext, sizesRead, noStations, refusedStations, sizeFrom, sizesLeft, sizingOf, stoppedSizing, sizeBy, sizeOn, stationsIn}
 use Rattle.input.proofs.Filling.{Filling, filling-start, filling-step, filling-end}
 
 -- ---- a station word that was read
@@ -92,6 +93,7 @@ good-none k f (w ∷ ws) e = rw (size-fault w f e)
 -- ---- the loop over them: i are read
 
 pub record SizesSoFar (ws : List ℕ) (n : ℕ) (sizes : List ℕ) (i : ℕ) : Type 0 where
+  pub some : 1 ≤ length ws
   pub below : i ≤ n
   pub good : goodSizes n (drop 1 ws) ≡ goodSizes (n - i) (drop (i + 1) ws)
   pub filled : Filling (map payloadOf (take n (drop 1 ws))) sizes i (map payloadOf (take (n - i) (drop (i + 1) ws)))
@@ -111,6 +113,7 @@ module _ (ws : List ℕ) (n : ℕ) (sizes : List ℕ) (i : ℕ) (limit : n ≤ m
       let m : n - i ≡ suc (n - (i + 1)) = omega arith in
       let e : drop 1 (drop (i + 1) ws) ≡ drop (i + 1 + 1) ws = drop-drop 1 (i + 1) ws in
       record {
+        some = inv .some;
         below = omega arith;
         good = rw (← e, ← good-more (n - (i + 1)) d (drop (i + 1) ws) s, ← m) (inv .good);
         filled =
@@ -126,13 +129,15 @@ module _ (ws : List ℕ) (n : ℕ) (sizes : List ℕ) (i : ℕ) (limit : n ≤ m
       let z : n - i ≡ 0 = omega arith in
       let g : goodSizes n (drop 1 ws) ≡ true = inv .good ∙ ap (λ k. goodSizes k (drop (i + 1) ws)) z in
       let f : Filling (map payloadOf (take n (drop 1 ws))) sizes n [] = rw (z, e) at (inv .filled) in
-      let o : n + 1 ≡ 1 + n = omega arith in
+      let l : n ≤ length ws - 1 = rw length-drop at (good-long n (drop 1 ws) g) in
+      let o : n + 1 ≡ min (1 + n) (length ws) = omega (arith, inv .some) in
       rw (g, o, ← filling-end (map payloadOf (take n (drop 1 ws))) sizes n limit f)
 
-pub sizes-start : (ws : List ℕ) (n : ℕ) → SizesSoFar ws n (replicate maxVariables 1) 0
-sizes-start ws n =
+pub sizes-start : (ws : List ℕ) (n : ℕ) → 1 ≤ length ws → SizesSoFar ws n (replicate maxVariables 1) 0
+sizes-start ws n some =
     let e : n - 0 ≡ n = omega arith in
     record {
+      some = some;
       below = omega arith;
       good = rw e;
       filled = rw e (filling-start (map payloadOf (take n (drop 1 ws))));
@@ -145,8 +150,8 @@ pub data SizesFine (ws : List ℕ) (n : ℕ) : Sizing → List ℕ → Type 0 wh
       → SizesFine ws n s xs
   broke : {s : Sizing} {xs : List ℕ} → s .left ≡ 0 → stationsIn s ≡ sizesRead n ws → SizesFine ws n s xs
 
-pub fine-start : (ws : List ℕ) (n : ℕ) → SizesFine ws n (sizingOf n) (drop 1 ws)
-fine-start ws n = let l : n ≡ n - 0 = omega arith in reads 0 l refl refl refl (sizes-start ws n)
+pub fine-start : (ws : List ℕ) (n : ℕ) → 1 ≤ length ws → SizesFine ws n (sizingOf n) (drop 1 ws)
+fine-start ws n some = let l : n ≡ n - 0 = omega arith in reads 0 l refl refl refl (sizes-start ws n some)
 
 -- a size that was read is 1 to 8
 pub size-range : (y : Got) (x : Next) (d : ℕ) → y ≡ sizeFrom x → y ≡ Number d → (1 ≤ d) × (d ≤ maxValues)
@@ -205,6 +210,13 @@ module _ (ws : List ℕ) (n : ℕ) (limit : n ≤ maxVariables) (s : Sizing) (xs
       let k = inv .below in
       let o : s .behind ≡ n + 1 = omega arith in
       rw (z, o) (sizes-end ws n (s .sizes) i limit inv (omega arith))
+
+-- no words have no stations
+pub sizes-none : (ws : List ℕ) (n : ℕ) → min 1 n ≤ length ws → length ws ≡ 0 → noStations ≡ sizesRead n ws
+unfolding sizesRead goodSizes padded
+sizes-none [] zero h e = refl
+sizes-none [] (suc n) h e = absurd (omega arith)
+sizes-none (w ∷ ws) n h e = absurd (omega arith)
 
 -- ---- what the answer tells, of an instance's stations and of a sheet's
 

@@ -1,12 +1,12 @@
 -- An instance's answer, from those of its three phases, the head, the stations and the entries, and what the answer tells.
-use Prim.Native.Nat.{ℕ, _+_, _≤_}
+use Prim.Native.Nat.{ℕ, zero, suc, _+_, _≤_, min}
 use native.Mathlib.Omega.{arith}
 use native.Mathlib.Numerals.{add-one}
-use mathlib.Core.Path.{_≡_, refl, sym, ap, _∙_}
+use mathlib.Core.Path.{_≡_, refl, sym, ap, subst, _∙_}
 use mathlib.Core.Bool.{true, false, cond}
 use mathlib.Core.List.{List, [], _∷_, map}
 use mathlib.Core.Option.{Option, none, some}
-use lib.ListN.{length, getD, take, drop, length-map, length-drop}
+use lib.ListN.{length, getD, take, drop, length-map}
 use lib.Seq.{length-take-le}
 use lib.Dec.{eqb}
 use borrow.Author.Tests.{ne-eqb}
@@ -31,10 +31,17 @@ use Rattle.input.specs.Phases.{headGot, headNext, sizesRead}
 use Rattle.input.specs.Calls.{refusedInstance, validateCall}
 use Rattle.input.proofs.Sizes.{stations-taken, stations-refused, stations-apart}
 
+-- past the end of the words there are none, as at their end
+drop-min : (k : ℕ) (ws : List ℕ) → drop (min k (length ws)) ws ≡ drop k ws
+drop-min zero ws = let e : min 0 (length ws) ≡ 0 = omega arith in rw e
+drop-min (suc k) [] = let e : min (suc k) 0 ≡ 0 = omega arith in rw e
+drop-min (suc k) (w ∷ ws) = let e : min (suc k) (suc (length ws)) ≡ suc (min k (length ws)) = omega arith in rw e (drop-min k ws)
+
 -- ---- a head that was read
 
--- the words start with a head of n variables
+-- the words start with a head of n variables, or there are none, which are those of no variables
 pub data Headed : List ℕ → ℕ → Type 0 where
+  withoutWords : Headed [] 0
   withHead : {w n : ℕ} {ws : List ℕ} → headIn w ≡ some n → Headed (w ∷ ws) n
 
 head-got : (w n : ℕ) → Number n ≡ headGot w → headIn w ≡ some n
@@ -47,13 +54,15 @@ head-got w n e = go (headIn w) e
 
 pub headed-of : (ws : List ℕ) (n : ℕ) → Number n ≡ headNext ws → Headed ws n
 unfolding nextBy nextOf
-headed-of [] n e = let z : _≡_ {A = ℕ} 0 1 = cc in absurd (omega arith)
+headed-of [] n e = let z : 0 ≡ n = cc in subst (λ k. Headed [] k) z withoutWords
 headed-of (w ∷ ws) n e = withHead (head-got w n e)
 
-pub headed-bounds : (ws : List ℕ) (n : ℕ) → Headed ws n → (1 ≤ n) × (n ≤ maxVariables) × (1 ≤ length ws)
-headed-bounds (w ∷ ws) n (withHead e) = let (k, p, l, h) = head-some w n e in (l, h, omega arith)
+pub headed-bounds : (ws : List ℕ) (n : ℕ) → Headed ws n → (n ≤ maxVariables) × (min 1 n ≤ length ws)
+headed-bounds [] n withoutWords = (omega arith, omega arith)
+headed-bounds (w ∷ ws) n (withHead e) = let (k, p, h) = head-some w n e in (h, omega arith)
 
 pub headed-payload : (ws : List ℕ) (n : ℕ) → Headed ws n → payloadOf (getD ws 0 0) ≡ n
+headed-payload [] n withoutWords = refl
 headed-payload (w ∷ ws) n (withHead e) = head-some w n e .1
 
 -- no head: the fault is 1, whatever a head would lead to
@@ -91,17 +100,18 @@ module _ (ws : List ℕ) (n : ℕ) (h : Headed ws n) where
       rw (sizes-are, length-map (take n (drop 1 ws)) payloadOf, length-take-le n (drop 1 ws) l)
 
   pub instance-apart : instanceFault ws ≡ cond (goodSizes n (drop 1 ws)) (entriesFault (sizesOf ws) 0 0 (drop (n + 1) ws)) 2
-  unfolding instanceFault
-  instance-apart = apart ws h ∙ ap (λ ds. cond (goodSizes n (drop 1 ws)) (entriesFault ds 0 0 (drop (n + 1) ws)) 2) (sym sizes-are)
+  unfolding instanceFault goodSizes
+  instance-apart = apart n ws h ∙ ap (λ ds. cond (goodSizes n (drop 1 ws)) (entriesFault ds 0 0 (drop (n + 1) ws)) 2) (sym sizes-are)
     where
-      apart : (ws : List ℕ) → Headed ws n
+      apart : (n : ℕ) (ws : List ℕ) → Headed ws n
           → instanceFault ws ≡ cond (goodSizes n (drop 1 ws)) (entriesFault (map payloadOf (take n (drop 1 ws))) 0 0 (drop (n + 1) ws)) 2
-      apart (w ∷ ws) (withHead e) = rw (e, add-one n) (stations-apart n [] ws)
+      apart n [] withoutWords = refl
+      apart n (w ∷ ws) (withHead e) = rw (e, add-one n) (stations-apart n [] ws)
 
   module _ (read : Stations) (r : read ≡ sizesRead n ws) where
     -- the stations as they are read without a fault
     found : Stations
-    found = record { number = 0; behind = 1 + n; sizes = padded (map payloadOf (take n (drop 1 ws))) }
+    found = record { number = 0; behind = min (1 + n) (length ws); sizes = padded (map payloadOf (take n (drop 1 ws))) }
 
     pub sizes-broken : (read .number ≡ 0 → ⊥) → refusedInstance (read .number) ≡ validateCall ws
     unfolding validateCall sizesRead found
@@ -115,13 +125,16 @@ module _ (ws : List ℕ) (n : ℕ) (h : Headed ws n) where
       unfolding sizesRead found
       is-found = stations-taken (goodSizes n (drop 1 ws)) found refl read r z
 
-      behind-is : read .behind ≡ n + 1
-      unfolding found
-      behind-is = omega (arith, ap (λ (x : Stations). x .behind) (is-found .1))
-
       -- the entries start within the words or at their end
+      behind-is : read .behind ≡ min (1 + n) (length ws)
+      unfolding found
+      behind-is = ap (λ (x : Stations). x .behind) (is-found .1)
+
       pub entries-within : read .behind ≤ length ws
-      entries-within = omega (arith, behind-is, good-long n (drop 1 ws) (is-found .0), headed-bounds ws n h, length-drop 1 ws)
+      entries-within = omega (arith, behind-is)
+
+      behind-words : drop (read .behind) ws ≡ drop (n + 1) ws
+      behind-words = ap (λ k. drop k ws) behind-is ∙ drop-min (1 + n) ws ∙ ap (λ k. drop k ws) (let o : 1 + n ≡ n + 1 = omega arith in o)
 
       pub sizes-padded : read .sizes ≡ padded (sizesOf ws)
       unfolding found
@@ -129,7 +142,7 @@ module _ (ws : List ℕ) (n : ℕ) (h : Headed ws n) where
 
       whole : scanGot (take n (read .sizes)) 0 0 (drop (read .behind) ws) ≡ scanGot (sizesOf ws) 0 0 (drop (n + 1) ws)
       whole =
-          rw behind-is (ap (λ ds. scanGot ds 0 0 (drop (n + 1) ws)) (ap (take n) sizes-padded ∙ padded-front (sizesOf ws) n (sizes-number (is-found .0))))
+          rw behind-words (ap (λ ds. scanGot ds 0 0 (drop (n + 1) ws)) (ap (take n) sizes-padded ∙ padded-front (sizesOf ws) n (sizes-number (is-found .0))))
 
       instance-is : instanceFault ws ≡ entriesFault (sizesOf ws) 0 0 (drop (n + 1) ws)
       instance-is = instance-apart ∙ rw (is-found .0)
@@ -153,7 +166,7 @@ module _ (ws : List ℕ) (n : ℕ) (h : Headed ws n) where
 -- a head's fault is 1
 pub head-one : (ws : List ℕ) (f : ℕ) → Fault f ≡ headNext ws → f ≡ 1
 unfolding nextBy nextOf headGot headed
-head-one [] f e = cc
+head-one [] f e = let z : _≡_ {A = ℕ} 0 1 = cc in absurd (omega arith)
 head-one (w ∷ ws) f e = go (headIn w) e
   where
     go : (o : Option ℕ) → Fault f ≡ headed (Fault 1) Number o → f ≡ 1
@@ -162,7 +175,7 @@ head-one (w ∷ ws) f e = go (headIn w) e
 
 no-head-one : (ws : List ℕ) (f : ℕ) → Fault f ≡ headNext ws → refusedInstance 1 ≡ validateCall ws
 unfolding validateCall instanceFault nextBy nextOf
-no-head-one [] f e = refl
+no-head-one [] f e = let z : _≡_ {A = ℕ} 0 1 = cc in absurd (omega arith)
 no-head-one (w ∷ ws) f e = rw (headless (λ n. stationsFault n [] ws) w f e)
 
 pub no-head : (ws : List ℕ) (f : ℕ) → Fault f ≡ headNext ws → refusedInstance f ≡ validateCall ws

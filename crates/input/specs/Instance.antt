@@ -18,10 +18,10 @@ stationsFault (suc k) sizes [] = 2
 stationsFault (suc k) sizes (w ∷ ws) =
     let d = sizeIn w in cond (eqb d 0) 2 (stationsFault k (sizes ++ (d ∷ [])) ws)
 
--- the fault of an instance: 0 if it is accepted, else the number of the faulty word nearest the front
+-- the fault of an instance: 0 if it is accepted, as no words at all are, else the number of the faulty word nearest the front
 unfoldable pub instanceFault : List ℕ → ℕ
 unfolding stationsFault headed
-instanceFault [] = 1
+instanceFault [] = 0
 instanceFault (w ∷ ws) = headed 1 (λ n. stationsFault n [] ws) (headIn w)
 
 -- the sizes and the entries of an accepted instance

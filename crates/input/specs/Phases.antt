@@ -1,8 +1,8 @@
 -- Inner: what the readers of the words in front of the entries answer; no statement for users rests on it. Laws in proofs/ join them to the faults of Instance.
-use Prim.Native.Nat.{ℕ, _+_, _-_}
+use Prim.Native.Nat.{ℕ, _+_, _-_, min}
 use mathlib.Core.Bool.{Bool, cond}
 use mathlib.Core.List.{List, map}
-use lib.ListN.{take, drop, set, replicate}
+use lib.ListN.{length, take, drop, set, replicate}
 use lib.Dec.{eqb, ltb}
 use Rattle.words.specs.Layout.{payloadOf}
 use Rattle.fields.specs.Limits.{maxVariables}
@@ -15,13 +15,13 @@ use Rattle.entries.specs.declared.Got.the-variants.{Number, Fault}
 use Rattle.input.specs.declared.Stations.{Stations}
 use Rattle.input.specs.declared.Sizing.{Sizing}
 
--- the number of variables that a word gives as a head; the same of the next word
+-- the number of variables that a word gives as a head; the same of the next word, 0 where there are no words
 unfoldable pub headGot : ℕ → Got
 unfolding headed
 headGot w = headed (Fault 1) Number (headIn w)
 
 abbrev pub headNext : List ℕ → Got
-headNext ws = nextBy (Fault 1) headGot (nextOf ws)
+headNext ws = nextBy (Number 0) headGot (nextOf ws)
 
 -- the domain size that a word gives as a station word; the same of the next word
 unfoldable pub sizeGot : ℕ → Got
@@ -36,12 +36,15 @@ sizeNext ws = sizeFrom (nextOf ws)
 abbrev pub refusedStations : ℕ → Stations
 refusedStations k = record { number = k; behind = 0; sizes = replicate maxVariables 0 }
 
--- the n stations of an instance
+abbrev pub noStations : Stations
+noStations = record { number = 0; behind = 0; sizes = replicate maxVariables 1 }
+
+-- the n stations of an instance; none where there are no words
 unfoldable pub sizesRead : ℕ → List ℕ → Stations
 unfolding goodSizes
 sizesRead n ws =
     cond (goodSizes n (drop 1 ws))
-    (record { number = 0; behind = 1 + n; sizes = padded (map payloadOf (take n (drop 1 ws))) })
+    (record { number = 0; behind = min (1 + n) (length ws); sizes = padded (map payloadOf (take n (drop 1 ws))) })
     (refusedStations 2)
 
 -- ---- station by station

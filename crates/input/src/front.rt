@@ -12,24 +12,21 @@ use reader::word::Next;
 use reader::word_at;
 use words::Word;
 ghost use mathlib.Core.Path.{_≡_};
-ghost use Prim.Native.Nat.{_≤_};
+ghost use Prim.Native.Nat.{_≤_, min};
 ghost use lib.ListN.{length};
 ghost use Rattle.fields.specs.Limits.{maxVariables};
-ghost use Rattle.input.specs.Phases.{headNext, sizeGot, sizeFrom, refusedStations, sizesRead, sizesLeft, stoppedSizing, sizeOn, sizingOf, stationsIn};
+ghost use Rattle.input.specs.Phases.{headNext, sizeGot, sizeFrom, refusedStations, noStations, sizesRead, sizesLeft, stoppedSizing, sizeOn, sizingOf, stationsIn};
 
-// The number of variables that the head gives.
+// The number of variables that the head gives, 0 where there are no words at all.
 pub fn read_head(words: &[u32]) -> Got
     ensures { λ r. ⌜ r ≡ headNext (now (words .entry)) ⌝ }
 {
     let Next::Word(w) = word_at(words, 0) else {
-        return Got::Fault(1);
+        return Got::Number(0);
     };
     let Word::Head(n) = words::read(w) else {
         return Got::Fault(1);
     };
-    if n < 1 {
-        return Got::Fault(1);
-    }
     if MAX_VARIABLES < n as usize {
         return Got::Fault(1);
     }
@@ -122,11 +119,25 @@ fn sizes_through(words: &[u32], at: usize, mut s: Sizing) -> Sizing
     s
 }
 
+// No stations, where there are no words.
+pub fn no_stations() -> Stations
+    ensures { λ r. ⌜ r ≡ noStations ⌝ }
+{
+    Stations {
+        number: 0,
+        behind: 0,
+        sizes: [1; MAX_VARIABLES],
+    }
+}
+
 // The sizes of an instance's n variables.
 pub fn read_sizes(words: &[u32], n: usize) -> Stations
-    requires { ⌜ (n ≤ maxVariables) × (1 ≤ length (now words)) ⌝ }
+    requires { ⌜ (n ≤ maxVariables) × (min 1 n ≤ length (now words)) ⌝ }
     ensures { λ r. ⌜ r ≡ sizesRead n (now (words .entry)) ⌝ }
 {
+    if words.len() == 0 {
+        return no_stations();
+    }
     let start = Sizing {
         left: n,
         number: 0,

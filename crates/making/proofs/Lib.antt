@@ -5,3 +5,4 @@ mod Writing
 pub mod Making
 pub mod MakeTests
 pub mod Order
+pub mod Empty

@@ -3,7 +3,7 @@ use Prim.Native.Nat.{ℕ, _+_, _-_, _*_, _≤_, _<_}
 use native.Mathlib.Nat.{zero-add}
 use native.Mathlib.Omega.{arith}
 use mathlib.Core.Path.{_≡_, sym, ap, _∙_}
-use mathlib.Core.List.{List, _++_}
+use mathlib.Core.List.{List, [], _∷_, _++_}
 use lib.ListN.{length, take, drop, length-drop, length-map}
 use lib.Seq.{sets, sets-eq}
 use borrow.Author.Tests.{eq-eqb, le-leb, lt-leb}
@@ -22,7 +22,7 @@ use Rattle.making.specs.Calls.{makeCall}
 use Rattle.sheet.proofs.Sheets.{entries-start, GoodRead, bad-read}
 use Rattle.sheet.proofs.Acceptance.{accepted-sheet}
 use Rattle.making.proofs.GoodLegs.{legs-length}
-use Rattle.making.proofs.Reading.{made-accepted, leg-words-length}
+use Rattle.making.proofs.Reading.{made-none, made-words, made-accepted, leg-words-length}
 use Rattle.making.proofs.Writing.{sets-append}
 
 -- ---- what the call reckons
@@ -38,9 +38,9 @@ pub record Measured (ws : List ℕ) (n entries : ℕ) : Type 0 where
   pub rest : length ws - entries ≡ length (entryWordsOf ws)
   pub long : length (madeWords ws) ≡ 1 + n + 3 * legCount (sheetSizes ws) + length (entryWordsOf ws)
 
-pub measure : (ws : List ℕ) (n entries : ℕ) → sheetFault ws ≡ 0 → n ≡ length (sheetSizes ws) → entries ≡ length ws - length (entryWordsOf ws)
+pub measure : (ws : List ℕ) (n entries : ℕ) → sheetFault ws ≡ 0 → 1 ≤ length ws → n ≡ length (sheetSizes ws) → entries ≡ length ws - length (entryWordsOf ws)
     → Measured ws n entries
-measure ws n entries fine e f =
+measure ws n entries fine some e f =
     let a = accepted-sheet ws fine in
     let w = words-within ws in
     record {
@@ -51,21 +51,21 @@ measure ws n entries fine e f =
     }
 
 -- the length that the call reckons is the instance's
-pub long-is : (ws : List ℕ) (r : SheetRead) (count : ℕ) → GoodRead ws r → count ≡ legCount (take (r .variables) (r .sizes))
+pub long-is : (ws : List ℕ) (r : SheetRead) (count : ℕ) → GoodRead ws r → 1 ≤ length ws → count ≡ legCount (take (r .variables) (r .sizes))
     → 1 + r .variables + 3 * count + (length ws - r .«entries_at») ≡ length (madeWords ws)
-long-is ws r count g e =
-    let m = measure ws (r .variables) (r .«entries_at») (g .fine) (g .variables) (g .entries) in
+long-is ws r count g some e =
+    let m = measure ws (r .variables) (r .«entries_at») (g .fine) some (g .variables) (g .entries) in
     let c : count ≡ legCount (sheetSizes ws) = e ∙ ap legCount (sizes-taken (sheetSizes ws) (r .sizes) (r .variables) (g .sizes) (g .variables)) in
     omega arith
 
 -- ---- the instance from its parts
 
-pub parts-stored : (ws sizes t₀ t₁ t₂ t₃ : List ℕ) (n behind entries : ℕ) → sizes ≡ padded (sheetSizes ws) → n ≡ length (sheetSizes ws)
+pub parts-stored : (ws sizes t₀ t₁ t₂ t₃ : List ℕ) (n behind entries : ℕ) → 1 ≤ length ws → sizes ≡ padded (sheetSizes ws) → n ≡ length (sheetSizes ws)
     → entries ≡ length ws - length (entryWordsOf ws) → t₁ ≡ sets t₀ 0 (frontWords (take n sizes))
     → behind ≡ n + 1 + 3 * legCount (sheetSizes ws) → t₂ ≡ sets t₁ (n + 1) (allLegWords (legsFrom 0 (positionsOf ws)))
     → t₃ ≡ sets t₂ behind (drop entries ws) → t₃ ≡ sets t₀ 0 (madeWords ws)
-unfolding madeWords sheetSizes
-parts-stored ws sizes t₀ t₁ t₂ t₃ n behind entries padding many start fronted after legged copied =
+unfolding sheetSizes
+parts-stored ws sizes t₀ t₁ t₂ t₃ n behind entries some padding many start fronted after legged copied =
     let ds : List ℕ = sheetSizes ws in
     let legs : List Leg = legsFrom 0 (positionsOf ws) in
     let L : List ℕ = allLegWords legs in
@@ -75,7 +75,7 @@ parts-stored ws sizes t₀ t₁ t₂ t₃ n behind entries padding many start fr
     let three : drop entries ws ≡ entryWordsOf ws = rw start (entries-start ws) in
     let split : sets t₀ 0 (frontWords ds ++ (L ++ entryWordsOf ws)) ≡ sets (sets t₁ (n + 1) L) behind (entryWordsOf ws) =
     sets-append t₀ 0 (frontWords ds) (L ++ entryWordsOf ws) ∙ rw (one, s) (sets-append t₁ (n + 1) L (entryWordsOf ws) ∙ rw l) in
-    copied ∙ rw (legged, three) (sym split)
+    copied ∙ rw (legged, three, made-words ws some) (sym split)
 
 -- ---- the answers
 
@@ -83,6 +83,14 @@ module _ (ws t : List ℕ) where
   -- the answer and the target are those of the call
   abbrev pub Makes : Answer → List ℕ → Type 0
   Makes answer t′ = record { answer = answer; target = t′ } ≡ makeCall ws t
+
+  pub empty-make : (a : Answer) → length ws ≡ 0 → a ≡ good 0 → Makes a t
+  unfolding makeCall sheetFault
+  empty-make a e q = go ws e
+    where
+      go : (ws : List ℕ) → length ws ≡ 0 → record { answer = a; target = t } ≡ makeCall ws t
+      go [] e = rw (q, made-none, le-leb 0 (length t) (omega arith))
+      go (w ∷ ws) e = absurd (omega arith)
 
   pub refused-make : (r : SheetRead) (a : Answer) → r ≡ sheetCall ws → (r .number ≡ 0 → ⊥) → a ≡ refused (r .number) → Makes a t
   unfolding makeCall

@@ -18,7 +18,7 @@ use Rattle.fields.proofs.Fronts.{head-is, size-is}
 use Rattle.fields.proofs.Closing.{closes-cost, cost-some}
 use Rattle.entries.specs.Entries.{scanBinding, scanClosing, scanCost, scanWord, resume, entriesFault}
 use Rattle.input.specs.Instance.{stationsFault, instanceFault, sizesOf, entriesOf}
-use Rattle.sheet.specs.Sheet.{legCount, positionsOf, sheetSizes, entryWordsOf}
+use Rattle.sheet.specs.Sheet.{legCount, stationsFrom, behindStations, positionsOf, sheetSizes, entryWordsOf}
 use Rattle.making.specs.Made.{Leg, legEntry, allLegWords, legsFrom, madeWords, madeEntries}
 use Rattle.making.specs.Promises.{MadeIsAccepted}
 use Rattle.sheet.proofs.Acceptance.{accepted-sheet}
@@ -109,9 +109,9 @@ sizes-mean (consEach {x = d} h small) =
 
 -- ---- the whole instance
 
-fault-head : (n : ℕ) (ws : List ℕ) → 1 ≤ n → n ≤ maxVariables → instanceFault (headWord n ∷ ws) ≡ stationsFault n [] ws
+fault-head : (n : ℕ) (ws : List ℕ) → n ≤ maxVariables → instanceFault (headWord n ∷ ws) ≡ stationsFault n [] ws
 unfolding instanceFault
-fault-head n ws p s = rw (head-is (headWord n) n (omega arith) (omega arith) p s)
+fault-head n ws s = rw (head-is (headWord n) n (omega arith) (omega arith) s)
 
 -- the words of sizes, legs and entries' words
 abbrev instanceWords : List ℕ → List Leg → List ℕ → List ℕ
@@ -120,7 +120,7 @@ instanceWords ds legs ws = frontWords ds ++ (allLegWords legs ++ ws)
 module _ (ds : List ℕ) (legs : List Leg) (ws : List ℕ) (sizes : FieldSizes ds) where
   words-accepted : GoodLegs ds legs → length legs ≡ legCount ds → legCount ds ≤ 704 → entriesFault ds 0 (legCount ds) ws ≡ 0 → instanceFault (instanceWords ds legs ws) ≡ 0
   words-accepted good counted many fine =
-      fault-head (length ds) (map sizeWord ds ++ (allLegWords legs ++ ws)) (sizes .least) (sizes .most) ∙
+      fault-head (length ds) (map sizeWord ds ++ (allLegWords legs ++ ws)) (sizes .most) ∙
       sizes-pass [] (allLegWords legs ++ ws) (sizes .each) ∙
       legs-pass 0 ws good (omega arith) ∙
       ap (λ n. entriesFault ds 0 n ws) (let e : 0 + length legs ≡ legCount ds = omega arith in e) ∙
@@ -142,9 +142,23 @@ module _ (ds : List ℕ) (legs : List Leg) (ws : List ℕ) (sizes : FieldSizes d
   words-length counted =
       rw (length-append (map sizeWord ds) (allLegWords legs ++ ws), length-map ds sizeWord, length-append (allLegWords legs) ws, leg-words-length legs, counted) (omega arith)
 
+-- no words make none
+pub made-none : madeWords [] ≡ []
+unfolding madeWords entryWordsOf behindStations positionsOf stationsFrom
+made-none = refl
+
+-- the words of the instance made from a sheet that has some
+pub made-words : (sheet : List ℕ) → 1 ≤ length sheet
+    → madeWords sheet ≡ instanceWords (sheetSizes sheet) (legsFrom 0 (positionsOf sheet)) (entryWordsOf sheet)
+unfolding madeWords
+made-words [] h = absurd (omega arith)
+made-words (w ∷ ws) h = refl
+
 pub made-accepted : MadeIsAccepted
-unfolding madeWords madeEntries sheetSizes
-made-accepted sheet fine =
+unfolding madeWords madeEntries sheetSizes instanceFault sizesOf entriesOf entriesFrom entryWordsOf behindStations positionsOf stationsFrom legCount
+made-accepted [] fine = record { accepted = refl; sizes = refl; entries = refl; words = refl }
+made-accepted (w ∷ ws) fine =
+    let sheet : List ℕ = w ∷ ws in
     let a = accepted-sheet sheet fine in
     let legs : List Leg = legsFrom 0 (positionsOf sheet) in
     let good : GoodLegs (sheetSizes sheet) legs = good-legs sheet a in
@@ -153,5 +167,5 @@ made-accepted sheet fine =
       accepted = words-accepted (sheetSizes sheet) legs (entryWordsOf sheet) (a .sizes) good counted (a .legs) (a .fault);
       sizes = words-sizes (sheetSizes sheet) legs (entryWordsOf sheet) (a .sizes);
       entries = words-entries (sheetSizes sheet) legs (entryWordsOf sheet) (a .sizes) good;
-      words = words-length (sheetSizes sheet) legs (entryWordsOf sheet) (a .sizes) counted;
+      words = omega (arith, words-length (sheetSizes sheet) legs (entryWordsOf sheet) (a .sizes) counted);
     }

@@ -3,3 +3,4 @@ pub mod Made
 pub mod Calls
 pub mod Promises
 pub mod Order
+pub mod Empty

@@ -49,11 +49,16 @@ unfoldable pub allLegWords : List Leg → List ℕ
 allLegWords [] = []
 allLegWords (l ∷ ls) = legWords l ++ allLegWords ls
 
+-- the words in front: those of the sheet's sizes, and none where the sheet has no words (document 02: "this sheet's instance has no words")
+unfoldable pub madeFront : List ℕ → List ℕ
+madeFront [] = []
+madeFront (w ∷ ws) = frontWords (sheetSizes (w ∷ ws))
+
 -- the words of the instance made from an accepted sheet
 unfoldable pub madeWords : List ℕ → List ℕ
-unfolding legsFrom allLegWords
+unfolding madeFront legsFrom allLegWords
 madeWords sheet =
-    frontWords (sheetSizes sheet) ++ (allLegWords (legsFrom 0 (positionsOf sheet)) ++ entryWordsOf sheet)
+    madeFront sheet ++ (allLegWords (legsFrom 0 (positionsOf sheet)) ++ entryWordsOf sheet)
 
 -- its entries
 unfoldable pub madeEntries : List ℕ → List Entry

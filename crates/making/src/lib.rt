@@ -28,7 +28,7 @@ fn copy_words(sheet: &[u32], from: usize, target: &mut [u32], at: usize)
     }
 }
 
-// The instance made from an accepted sheet, in front of a target that it fits into.
+// The instance made from an accepted sheet that has words, in front of a target that it fits into.
 fn write_instance(
     sheet: &[u32],
     sizes: &[u8; MAX_VARIABLES],
@@ -36,7 +36,7 @@ fn write_instance(
     entries: usize,
     target: &mut [u32],
 )
-    requires { ⌜ sheetFault (now sheet) ≡ 0 ⌝ }
+    requires { ⌜ (sheetFault (now sheet) ≡ 0) × (1 ≤ length (now sheet)) ⌝ }
     requires { ⌜ (now sizes ≡ padded (sheetSizes (now sheet))) × (n ≡ length (sheetSizes (now sheet))) × (entries ≡ length (now sheet) - length (entryWordsOf (now sheet))) × (length (madeWords (now sheet)) ≤ length (now target)) ⌝ }
     ensures { λ _. ⌜ now (target .exit) ≡ sets (now (target .entry)) 0 (madeWords (now (sheet .entry))) ⌝ }
 {
@@ -49,6 +49,10 @@ fn write_instance(
 pub fn make(sheet: &[u32], target: &mut [u32]) -> Answer
     ensures returned { λ r. ⌜ record { answer = r; target = now (target .exit) } ≡ makeCall (now (sheet .entry)) (now (target .entry)) ⌝ }
 {
+    // The instance of no words has none either.
+    if sheet.len() == 0 {
+        return fields::success(0);
+    }
     let read = read_sheet(sheet);
     let number = read.number;
     if number != 0 {

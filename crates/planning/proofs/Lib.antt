@@ -3,3 +3,4 @@ mod Solving
 pub mod Best
 pub mod Meaning
 pub mod Numbers
+pub mod Empty

@@ -1,5 +1,6 @@
 -- The text's laws.
 pub mod Meaning
+pub mod Empty
 mod Plans
 mod Metres
 mod Lines

@@ -1,7 +1,7 @@
--- A sheet's plan holds a value of every variable, since it is the best; and an accepted sheet's first word is its number of variables.
+-- A sheet's plan holds a value of every variable, since it is the best; and an accepted sheet's first word, if it has one, is its number of variables.
 use Prim.Native.Nat.{ℕ, _*_, _≤_, _<_}
 use native.Mathlib.Omega.{arith}
-use mathlib.Core.Path.{_≡_, sym, ap}
+use mathlib.Core.Path.{_≡_, refl, sym, ap}
 use mathlib.Core.List.{List, [], _∷_}
 use lib.ListN.{length, getD, take, length-take}
 use lib.Seq.{getD-take}
@@ -52,13 +52,13 @@ means-holds bytes _ e (tooLong f) = absurd (let z : _≡_ {A = ℕ} 0 1 = cc in 
 means-holds bytes _ e (noWords f g) = absurd (let z : _≡_ {A = ℕ} 0 1 = cc in omega arith)
 means-holds bytes _ e (ofWords s f g m) = (sheet-holds (wordsIn bytes) s e m, f)
 
-some-words : (sheet : List ℕ) → sheetFault sheet ≡ 0 → 0 < length sheet
-unfolding sheetFault
-some-words [] e = absurd (omega arith)
-some-words (w ∷ ws) e = omega arith
-
-pub variables-read : (sheet : List ℕ) → sheetFault sheet ≡ 0 → (0 < length sheet)
-    × (payloadOf (getD sheet 0 0) ≡ length (sheetSizes sheet)) × (length (sheetSizes sheet) ≤ 12)
+pub variables-read : (sheet : List ℕ) → sheetFault sheet ≡ 0
+    → (payloadOf (getD sheet 0 0) ≡ length (sheetSizes sheet)) × (length (sheetSizes sheet) ≤ 12)
 variables-read sheet fine =
     let a = accepted-sheet sheet fine in
-    (some-words sheet fine, sym (a .head), a .sizes .most)
+    (sym (a .head), a .sizes .most)
+
+-- no words have no head, and the word in its place is taken to be 0
+pub variables-none : (sheet : List ℕ) → length sheet ≡ 0 → 0 ≡ payloadOf (getD sheet 0 0)
+variables-none [] e = refl
+variables-none (w ∷ ws) e = absurd (omega arith)

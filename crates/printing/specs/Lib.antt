@@ -2,3 +2,4 @@
 pub mod Printed
 pub mod Plans
 pub mod Theorems
+pub mod Empty

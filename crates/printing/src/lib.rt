@@ -1,7 +1,8 @@
 // The program's work on slices: from a sheet's bytes to the text that is printed.
 ghost use mathlib.Core.Path.{_≡_};
 ghost use Prim.Native.Nat.{_+_, _*_, _≤_, _<_};
-ghost use lib.ListN.{length, take};
+ghost use lib.ListN.{length, getD, take};
+ghost use Rattle.words.specs.Layout.{payloadOf};
 ghost use Rattle.fields.specs.Limits.{maxVariables};
 ghost use Rattle.text.specs.Putting.{Put};
 ghost use Rattle.sheet.specs.Sheet.{sheetSizes};
@@ -50,13 +51,23 @@ fn put_lines(sheet: &[u32], plan: &[u8], n: usize, out: &mut [u8], at: usize) ->
     end
 }
 
+// How many variables a sheet has by its head; none where it has no words.
+fn variables_of(sheet: &[u32]) -> usize
+    ensures { λ r. ⌜ r ≡ payloadOf (getD (now (sheet .entry)) 0 0) ⌝ }
+{
+    if sheet.len() == 0 {
+        return 0;
+    }
+    words::payload(sheet[0]) as usize
+}
+
 // The text of an assignment. The head and each of twelve lines take at most 64 bytes, 832 in all.
 fn put_plan(sheet: &[u32], plan: &[u8], steps: usize, cost: u64, out: &mut [u8]) -> usize
     requires { ⌜ HoldsPlan (now sheet) (now plan) ⌝ }
     requires { ⌜ 832 ≤ length (now out) ⌝ }
     ensures { λ r. ⌜ Put (now (out .entry)) 0 (planText (now (sheet .entry)) (now (plan .entry)) steps cost) (now (out .exit)) r × (r ≤ 832) ⌝ }
 {
-    let n = words::payload(sheet[0]) as usize;
+    let n = variables_of(sheet);
     let head = text::put_plan_head(out, 0, cost, steps);
     put_lines(sheet, plan, n, out, head)
 }

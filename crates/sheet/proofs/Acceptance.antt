@@ -15,7 +15,7 @@ use Rattle.fields.proofs.Sizes.{field-sizes}
 use Rattle.entries.specs.Entries.{entriesFault}
 use Rattle.entries.proofs.Accepting.{entries-accepted}
 use Rattle.input.proofs.Sizes.{withSize, size-payload}
-use Rattle.input.proofs.Validating.{Headed, headed-bounds, headed-payload, headed-by}
+use Rattle.input.proofs.Validating.{Headed, withoutWords, headed-bounds, headed-payload, headed-by}
 use Rattle.input.proofs.Acceptance.{passed}
 use Rattle.sheet.specs.Sheet.{legCount, sheetStationsFault, sheetFault, pointsFrom, stationsFrom, positionsOf, sheetSizes, entryWordsOf}
 use Rattle.sheet.specs.Phases.{goodPositions, goodStations}
@@ -26,7 +26,7 @@ use Rattle.sheet.proofs.Sheets.{sizes-are, sizes-number, whole-apart}
 
 pub sheet-headed : (ws : List ℕ) → sheetFault ws ≡ 0 → (n : ℕ) × Headed ws n
 unfolding sheetFault
-sheet-headed [] e = absurd (omega arith)
+sheet-headed [] e = (0, withoutWords)
 sheet-headed (w ∷ ws) e = headed-by (λ n. sheetStationsFault n 0 [] ws) w ws e
 
 -- ---- sizes and legs
@@ -88,7 +88,7 @@ accepted-sheet ws e =
     let r : EachSize (sheetSizes ws) = rw (sizes-are ws n h) (stations-each n (drop 1 ws) g) in
     let l = legs-bounded (sheetSizes ws) r in
     record {
-      sizes = field-sizes (sheetSizes ws) (omega arith) (omega arith) r;
+      sizes = field-sizes (sheetSizes ws) (omega arith) r;
       head = k ∙ sym (headed-payload ws n h);
       legs = omega arith;
       fault = f;

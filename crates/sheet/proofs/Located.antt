@@ -1,5 +1,5 @@
 -- The stations of a sheet: reading one after another answers the sizes of all and where the entries start, and the fault of the whole comes apart into that of the stations and that of the entries.
-use Prim.Native.Nat.{ℕ, zero, suc, _+_, _-_, _*_, _≤_, _<_}
+use Prim.Native.Nat.{ℕ, zero, suc, _+_, _-_, _*_, _≤_, _<_, min}
 use native.Mathlib.Omega.{arith}
 use mathlib.Core.Path.{_≡_, refl, ap, _∙_}
 use mathlib.Core.Bool.{Bool, true, false, _&&_, false≢true}
@@ -9,9 +9,10 @@ use lib.Seq.{drop-drop}
 use borrow.Author.Tests.{ne-eqb}
 use Rattle.fields.specs.Limits.{maxVariables, maxValues}
 use Rattle.fields.specs.Front.{sizeIn}
+use Rattle.fields.specs.Padding.{padded}
 use Rattle.reader.specs.Next.{nextOf, nextBy}
 use Rattle.entries.specs.declared.Got.the-variants.{Fault}
-use Rattle.input.specs.Phases.{sizeNext, refusedStations}
+use Rattle.input.specs.Phases.{sizeNext, noStations, refusedStations}
 use Rattle.input.proofs.Filling.{Filling, filling-start, filling-step, filling-end}
 use Rattle.input.proofs.Sizes.{Sized, withSize, sized-bounds, size-payload, size-fault}
 use Rattle.sheet.specs.Sheet.{pointsFrom, stationsFrom, behindStations}
@@ -83,6 +84,13 @@ stations-start ws n h =
       filled = rw e (filling-start (map length (stationsFrom n (drop 1 ws))));
       behind = rw e;
     }
+
+-- no words have no stations
+pub stations-none : (ws : List ℕ) (n : ℕ) → min 1 n ≤ length ws → length ws ≡ 0 → noStations ≡ stationsRead n ws
+unfolding stationsRead goodStations stationsFrom behindStations padded
+stations-none [] zero h e = refl
+stations-none [] (suc n) h e = absurd (omega arith)
+stations-none (w ∷ ws) n h e = absurd (omega arith)
 
 module _ (ws : List ℕ) (n : ℕ) (sizes : List ℕ) (at i : ℕ) (limit : n ≤ maxVariables) (inv : StationsSoFar ws n sizes at i) where
   pub sized-inside : (d : ℕ) → Sized (drop at ws) d → (at + 1 ≤ length ws) × (1 ≤ d) × (d ≤ maxValues)

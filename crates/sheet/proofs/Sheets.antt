@@ -24,7 +24,7 @@ use Rattle.entries.proofs.Scanning.{got-fault, got-number}
 use Rattle.input.specs.declared.Stations.{Stations}
 use Rattle.input.specs.Phases.{headNext}
 use Rattle.input.proofs.Sizes.{withSize, stations-taken, stations-refused}
-use Rattle.input.proofs.Validating.{Headed, withHead, headed-bounds, headed-payload, head-one, headless}
+use Rattle.input.proofs.Validating.{Headed, withoutWords, withHead, headed-bounds, headed-payload, head-one, headless}
 use Rattle.sheet.specs.declared.SheetRead.{SheetRead}
 use Rattle.sheet.specs.Sheet.{isEasting, isNorthing, legCount, sheetStationsFault, sheetFault, stationsFrom, behindStations, sheetSizes, entryWordsOf}
 use Rattle.sheet.specs.Phases.{placeNext, goodPositions, goodStations, stationsRead}
@@ -191,12 +191,13 @@ module _ (ws : List ℕ) (n : ℕ) (h : Headed ws n) where
   entries-are = rw (headed-payload ws n h)
 
   pub whole-apart : sheetFault ws ≡ cond (goodStations n (drop 1 ws)) (entriesPart (sheetSizes ws) (entryWordsOf ws)) 2
-  unfolding sheetFault
-  whole-apart = rw (sizes-are, entries-are) (apart ws h)
+  unfolding sheetFault goodStations stationsFrom behindStations entriesFault
+  whole-apart = rw (sizes-are, entries-are) (apart n ws h)
     where
-      apart : (ws : List ℕ) → Headed ws n
+      apart : (n : ℕ) (ws : List ℕ) → Headed ws n
           → sheetFault ws ≡ cond (goodStations n (drop 1 ws)) (entriesPart (map length (stationsFrom n (drop 1 ws))) (behindStations n (drop 1 ws))) 2
-      apart (w ∷ ws) (withHead e) = rw e (sheet-apart n [] ws)
+      apart n [] withoutWords = refl
+      apart n (w ∷ ws) (withHead e) = rw e (sheet-apart n [] ws)
 
   module _ (read : Stations) (r : read ≡ stationsRead n ws) where
     -- the stations as they are read without a fault
@@ -266,7 +267,7 @@ module _ (ws : List ℕ) (n : ℕ) (h : Headed ws n) where
 
 no-head-one : (ws : List ℕ) (f : ℕ) → Fault f ≡ headNext ws → refusedSheet 1 ≡ sheetCall ws
 unfolding sheetCall sheetFault nextBy nextOf
-no-head-one [] f e = refl
+no-head-one [] f e = let z : _≡_ {A = ℕ} 0 1 = cc in absurd (omega arith)
 no-head-one (w ∷ ws) f e = rw (headless (λ n. sheetStationsFault n 0 [] ws) w f e)
 
 pub no-head : (ws : List ℕ) (f : ℕ) → Fault f ≡ headNext ws → refusedSheet f ≡ sheetCall ws

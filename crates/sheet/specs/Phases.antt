@@ -36,7 +36,7 @@ goodStations (suc k) (w ∷ ws) =
     let d = sizeIn w in
     cond (eqb d 0) false (goodPositions d ws && goodStations k (drop (2 * d) ws))
 
--- the n stations of a sheet
+-- the n stations of a sheet; none where there are no words
 unfoldable pub stationsRead : ℕ → List ℕ → Stations
 unfolding goodStations
 stationsRead n ws =

@@ -66,10 +66,10 @@ sheetStationsFault zero (suc m) sizes (w ∷ ws) =
 sheetStationsFault (suc k) (suc m) sizes (w ∷ ws) =
     cond (cond (eqb (suc m % 2) 0) (isEasting w) (isNorthing w)) (sheetStationsFault (suc k) m sizes ws) 2
 
--- the fault of a sheet: 0 if it is accepted, else the number of the faulty word nearest the front
+-- the fault of a sheet: 0 if it is accepted, as no words at all are, else the number of the faulty word nearest the front
 unfoldable pub sheetFault : List ℕ → ℕ
 unfolding sheetStationsFault headed
-sheetFault [] = 1
+sheetFault [] = 0
 sheetFault (w ∷ ws) = headed 1 (λ n. sheetStationsFault n 0 [] ws) (headIn w)
 
 -- the positions of d values

@@ -8,6 +8,7 @@ use entries::fault_in;
 use fields::MAX_VARIABLES;
 use fields::wide;
 use input::Stations;
+use input::front::no_stations;
 use input::front::refused_stations;
 use input::front::size_got;
 use reader::come_to;
@@ -16,7 +17,7 @@ use reader::next;
 use reader::word::Next;
 use words::Coordinate;
 ghost use mathlib.Core.Path.{_≡_};
-ghost use Prim.Native.Nat.{_≤_};
+ghost use Prim.Native.Nat.{_≤_, min};
 ghost use lib.ListN.{length, take, drop};
 ghost use Rattle.fields.specs.Limits.{maxVariables};
 ghost use Rattle.sheet.specs.Sheet.{coordinateIn, legCount};
@@ -130,9 +131,12 @@ fn read_station(words: &[u32], at: usize) -> Got
 
 // The sizes of a sheet's n variables, each followed by the positions of its values.
 pub fn read_stations(words: &[u32], n: usize) -> Stations
-    requires { ⌜ (n ≤ maxVariables) × (1 ≤ length (now words)) ⌝ }
+    requires { ⌜ (n ≤ maxVariables) × (min 1 n ≤ length (now words)) ⌝ }
     ensures { λ r. ⌜ r ≡ stationsRead n (now (words .entry)) ⌝ }
 {
+    if words.len() == 0 {
+        return no_stations();
+    }
     let mut sizes = [1u8; MAX_VARIABLES];
     let mut at: usize = 1;
     let mut i: usize = 0;

@@ -56,7 +56,7 @@ module _ (w : ℕ) (r : Head) (e : r ≡ headed Absent Variables (headIn w)) whe
       go (some m) q = let z : _≡_ {A = ℕ} 0 1 = cc in absurd (omega arith)
 
 pub few-variables : (w n : ℕ) → headIn w ≡ some n → n ≤ maxVariables
-few-variables w n e = head-some w n e .3
+few-variables w n e = head-some w n e .2
 
 -- a front that is not that of a table
 no-front : (t : List ℕ) → ((n : ℕ) → headIn (getD t 0 0) ≡ some n → validFront t n ≡ true → ⊥) → Invalid ≡ frontTable t

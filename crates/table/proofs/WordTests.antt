@@ -78,14 +78,10 @@ module _ (w k : ℕ) (a : k ≡ kindOf w) where
             let q : p ≡ 0 = omega arith in
             q ∙ sym (size-out w p (sym a ∙ e) (sym b) (below 1 p maxValues z))
 
-    pub head-low : k ≡ 1 → p < 1 → Absent ≡ headed Absent Variables (headIn w)
-    unfolding headed
-    head-low e h = rw (head-out w p (sym a ∙ e) (sym b) (below 1 p maxVariables h))
-
     pub head-high : k ≡ 1 → maxVariables < p → Absent ≡ headed Absent Variables (headIn w)
     unfolding headed
-    head-high e h = rw (head-out w p (sym a ∙ e) (sym b) (above 1 p maxVariables h))
+    head-high e h = rw (head-out w p (sym a ∙ e) (sym b) h)
 
-    pub head-read : k ≡ 1 → 1 ≤ p → p ≤ maxVariables → Variables p ≡ headed Absent Variables (headIn w)
+    pub head-read : k ≡ 1 → p ≤ maxVariables → Variables p ≡ headed Absent Variables (headIn w)
     unfolding headed
-    head-read e l h = rw (head-is w p (sym a ∙ e) (sym b) l h)
+    head-read e h = rw (head-is w p (sym a ∙ e) (sym b) h)

@@ -88,7 +88,7 @@ fn size_in(w: u32) -> u32
     d
 }
 
-// The number of variables that the word gives, if it is a head of 1 to 12.
+// The number of variables that the word gives, if it is a head of 0 to 12.
 fn head_in(w: u32) -> Head
     ensures { λ r. ⌜ r ≡ headed Absent Variables (headIn w) ⌝ }
 {
@@ -96,9 +96,6 @@ fn head_in(w: u32) -> Head
         return Head::Absent;
     }
     let n = words::payload(w) as usize;
-    if n < 1 {
-        return Head::Absent;
-    }
     if fields::MAX_VARIABLES < n {
         return Head::Absent;
     }

@@ -38,3 +38,4 @@ pub mod WideningSearch
 pub mod WideningRebuilt
 pub mod Widening
 pub mod Least
+pub mod Empty

@@ -8,5 +8,6 @@ pub mod Resolve
 pub mod Unsettled
 pub mod Rebuild
 pub mod Bound
+pub mod Empty
 pub mod Theorems
 pub mod Widening

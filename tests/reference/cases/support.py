@@ -32,10 +32,10 @@ def filler_rows(count):
 
 
 def random_field(rng):
-    """Sizes and entries of a field with at most 64 assignments."""
-    sizes = [rng.randint(1, 4) for _ in range(rng.randint(1, 3))]
+    """Sizes and entries of a field with at most 64 assignments; one without variables has constant costs alone."""
+    sizes = [rng.randint(1, 4) for _ in range(rng.randint(0, 3))]
     entries = []
-    for _ in range(rng.randint(0, 8 * len(sizes))):
+    for _ in range(rng.randint(0, 8 * max(1, len(sizes)))):
         bound = [variable for variable in range(len(sizes)) if rng.random() < 0.6]
         entries.append(([(variable, rng.randrange(sizes[variable])) for variable in bound], rng.choice(COSTS)))
     return sizes, entries
@@ -60,7 +60,7 @@ class Comparison(unittest.TestCase):
     def conserved(self, table, costs):
         """Every assignment falsifies what it pays; answers with the empty row's weight, which is no more."""
         rows = read_table(table).rows
-        empty = sum(weight for signs, weight in rows if set(signs) == {0})
+        empty = sum(weight for signs, weight in rows if not any(signs))
         for assignment, cost in costs.items():
             self.assertEqual(plain_falsified(rows, assignment), cost)
             self.assertLessEqual(empty, cost)

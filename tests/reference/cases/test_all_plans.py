@@ -11,8 +11,9 @@ from .support import Comparison, cost_table, random_field
 
 
 class Fields(Comparison):
-    def hold(self, sizes, entries):
-        source, costs = instance(sizes, entries), cost_table(sizes, entries)
+    def hold(self, sizes, entries, source=None):
+        """The words of the field are those of an instance, or others that say the same."""
+        source, costs = instance(sizes, entries) if source is None else source, cost_table(sizes, entries)
         start = encode(source, [5] * table_length(len(sizes), 200, 3)).table
         derivation, table = self.step_to_the_end(start, costs)
         bound = self.conserved(table, costs)
@@ -45,6 +46,12 @@ class Fields(Comparison):
         rng = random.Random(1)
         steps = sum(self.hold(*random_field(rng)) for _ in range(200))
         self.assertGreater(steps, 500)
+
+    def test_no_variables(self):
+        for count in range(4):
+            for costs in product([0, 1, 2, FORBIDDEN_WEIGHT], repeat=count):
+                self.assertEqual(self.hold([], [([], cost) for cost in costs]), 0)
+        self.assertEqual(self.hold([], [], source=[]), 0)
 
     def test_every_field_of_one_variable(self):
         for size in [1, 2, 3]:

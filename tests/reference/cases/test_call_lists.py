@@ -6,7 +6,7 @@ from itertools import combinations
 
 from reference import (check_call, complete_call, encode, most_rows, plan_call, run_call, step_call, to_five, to_six,
                        words)
-from reference.fields import all_forbidden, instance, table_length
+from reference.fields import all_forbidden, forbidden, instance, table_length
 from reference.forms import FIVE
 from reference.limits import FIVE_MAX_WEIGHT, ROW_WORDS
 from reference.tables import empty_weight, read_table, table_words
@@ -25,9 +25,16 @@ class CallLists(Comparison):
         self.assertGreater(outcomes.count("full"), 10)
         self.assertGreater(outcomes.count("unfinished"), 10)
 
-    def hold(self, rng, sizes, entries):
-        """Up to fifteen random calls, then the end if it has come."""
-        source, costs = instance(sizes, entries), cost_table(sizes, entries)
+    def test_no_variables(self):
+        rng = random.Random(8)
+        for _ in range(20):
+            for entries in [[], [([], 3), ([], 4)], [([], 3), forbidden()]]:
+                self.assertEqual(self.hold(rng, [], entries), "done")
+            self.assertEqual(self.hold(rng, [], [], source=[]), "done")
+
+    def hold(self, rng, sizes, entries, source=None):
+        """Up to fifteen random calls, then the end if it has come; the words may be others than those of an instance."""
+        source, costs = instance(sizes, entries) if source is None else source, cost_table(sizes, entries)
         table, derivation = self.tight_table(rng, source), []
         bound = self.conserved(table, costs)
         for _ in range(rng.randint(0, 15)):

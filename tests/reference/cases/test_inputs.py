@@ -28,9 +28,9 @@ class Faults(unittest.TestCase):
         self.assertEqual(make_instance(source, ROOM).number, 0)
 
     def test_head(self):
-        heads = [[], [words.size(1)], [words.head(0)], [words.head(13)], [words.head(1 << 4 | 1)],
-                 [words.head(1 << 27 | 1)], [0], [1], [words.forbidden()], [words.forbidden(1)], [words.high_weight(1)],
-                 [words.word(15, 1)]]
+        heads = [[words.size(1)], [words.cost(1)], [words.head(13)], [words.head(1 << 4)], [words.head(1 << 4 | 1)],
+                 [words.head(1 << 27)], [words.head(1 << 27 | 1)], [0], [1], [words.forbidden()], [words.forbidden(1)],
+                 [words.high_weight(1)], [words.word(15, 1)]]
         for source in heads:
             self.refused(1, source)
             self.refused_sheet(1, source)
@@ -40,6 +40,27 @@ class Faults(unittest.TestCase):
         self.refused(1, [words.head(13)] + [words.size(1)] * 13)
         self.accepted_sheet([words.head(12)] + [words.size(1), *PLACE] * 12)
         self.refused_sheet(1, [words.head(13)] + [words.size(1), *PLACE] * 13)
+
+    def test_no_variables(self):
+        # No words at all, and a head of 0 with constant costs: these are a sheet and an instance at once.
+        for rest in [[], [words.cost(0)], [words.forbidden()], [words.cost(65_535), words.forbidden(), words.cost(1)],
+                     [words.cost(1)] * 4_096, [words.forbidden()] * 4_096]:
+            self.accepted([words.head(0)] + rest)
+            self.accepted_sheet([words.head(0)] + rest)
+        self.accepted([])
+        self.accepted_sheet([])
+
+    def test_faults_without_variables(self):
+        low, high, most = words.cost(1), words.cost(65_536), [words.cost(0)] * 4_096
+        pair, unnamed, station = words.binding(0, 0), words.forbidden(1), [words.size(1), *PLACE]
+        others = [pair, unnamed, words.head(0), words.head(1), *station, words.weight(1), words.row_count(0), words.high_weight(0), 0]
+        faults = [(3, [low, other]) for other in others] + [(3, [other, low]) for other in others]
+        faults += [(3, [low, pair, words.forbidden()]), (3, [pair, high]), (3, station + [high]), (4, [high]), (4, [low, high]),
+                   (4, [high, pair]), (5, most + [low]), (5, most + [words.forbidden()]), (4, most + [high]),
+                   (3, most + [unnamed]), (3, most + [pair]), (3, most + station)]
+        for number, rest in faults:
+            self.refused(number, [words.head(0)] + rest)
+            self.refused_sheet(number, [words.head(0)] + rest)
 
     def test_sizes(self):
         for wrong in [words.size(0), words.size(9), words.size(1 << 8 | 2), words.head(1), words.cost(1), 2,

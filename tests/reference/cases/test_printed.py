@@ -59,7 +59,7 @@ class Printed(Lines):
         self.prints(GROWING, "REFUSED 10", table=4)
 
     def test_faults(self):
-        self.prints(b"", "REFUSED 1")
+        self.prints(as_bytes([0]), "REFUSED 1")
         self.prints(as_bytes([words.head(13)]), "REFUSED 1")
         self.prints(as_bytes([words.head(1)]), "REFUSED 2")
         self.prints(EXAMPLE[:-4], "REFUSED 3")

@@ -15,7 +15,7 @@ WEIGHTS = [[1, 2, 3, 7]] * 3 + [[MAX_WEIGHT, MAX_WEIGHT - 5, 3], [(1 << 28) - 1,
 
 
 def random_table(rng):
-    sizes = [rng.randint(2, 4) for _ in range(rng.randint(1, 4))]
+    sizes = [rng.randint(2, 4) for _ in range(rng.randint(0, 4))]
     signs = {tuple(rng.randrange((1 << size) - 1) for size in sizes) for _ in range(rng.randint(1, 6))}
     weights = rng.choice(WEIGHTS)
     rows = [Row(clause, rng.choice(weights)) for clause in sorted(signs)]
@@ -28,7 +28,7 @@ class RandomTables(Comparison):
     def test_random_tables(self):
         rng = random.Random(2)
         numbers = {0: 0, 11: 0, 12: 0}
-        for _ in range(400):
+        for _ in range(500):
             table = random_table(rng)
             for _ in range(4):
                 answer = step_call(table)

@@ -49,7 +49,7 @@ class Readout(unittest.TestCase):
         self.refused([1, 0], 1, *HERE)
 
     def test_sheet_first(self):
-        self.assertEqual(readout_call([], [], 99, 0, 0), (1, 0))
+        self.assertEqual(readout_call([words.head(13)], [], 99, 0, 0), (1, 0))
         self.assertEqual(readout_call(SOURCE[:5], [], 99, 0, 0), (2, 0))
         self.assertEqual(readout_call(SOURCE[:-1], [], 99, 0, 0), (3, 0))
         self.assertEqual(readout_call(SOURCE + [words.cost(65_536)], [0, 1], 0, *HERE), (4, 0))

@@ -4,7 +4,7 @@ import unittest
 from functools import cache, partial
 
 from reference import Buffers, season_line, solved, words
-from reference.fields import NO_WORDS, as_bytes, costing, forbidden, length, season, sheet
+from reference.fields import NO_HEAD, NO_WORDS, as_bytes, costing, forbidden, instance, length, season, sheet
 from reference.limits import FORBIDDEN_WEIGHT
 from reference.season import outcomes
 
@@ -48,8 +48,10 @@ class Cut(Lines):
             self.prints(season([EXAMPLE, EXAMPLE])[:-cut], "1  1 0 0 0 0 0 0 0  0 0  10 10 1")
 
     def test_length_of_0(self):
-        self.prints(length(0), "0  1 0 0 0 0 0 0 0  0 0  0 0 0")
-        self.prints(length(0) + season([EXAMPLE]), "1  1 0 0 0 0 0 0 0  0 0  10 10 2")
+        self.prints(length(0), "1  0 0 0 0 0 0 0 0  0 0  0 0 1")
+        self.prints(length(0) + season([EXAMPLE]), "2  0 0 0 0 0 0 0 0  0 0  10 10 2")
+        self.prints(season([EXAMPLE]) + length(0), "2  0 0 0 0 0 0 0 0  0 0  10 10 1")
+        self.prints(season([NO_HEAD]) + length(0) * 2, "2  1 0 0 0 0 0 0 0  0 0  0 0 2")
 
     def test_length_of_16000(self):
         self.prints(season([LONGEST, EXAMPLE]), "2  0 0 0 0 0 0 0 0  0 0  4008 3998 1")
@@ -73,17 +75,18 @@ class Cut(Lines):
             self.prints(season([EXAMPLE]) + length(announced) + season([EXAMPLE]), "1  1 0 0 0 0 0 0 0  0 0  10 10 1")
 
     def test_10000_sheets(self):
-        self.prints(season([NO_WORDS] * 9_999 + [EXAMPLE]), "1  9999 0 0 0 0 0 0 0  0 0  10 10 10000")
-        self.prints(season([NO_WORDS] * 10_000), "0  10000 0 0 0 0 0 0 0  0 0  0 0 0")
+        self.prints(season([NO_HEAD] * 9_999 + [EXAMPLE]), "1  9999 0 0 0 0 0 0 0  0 0  10 10 10000")
+        self.prints(season([NO_HEAD] * 10_000), "0  10000 0 0 0 0 0 0 0  0 0  0 0 0")
+        self.prints(season([NO_WORDS] * 9_999 + [EXAMPLE]), "10000  0 0 0 0 0 0 0 0  0 0  10 10 10000")
 
     def test_nothing_counts_behind_10000_sheets(self):
-        self.prints(season([NO_WORDS] * 10_000 + [EXAMPLE]), "0  10000 0 0 0 0 0 0 0  0 0  0 0 0")
+        self.prints(season([NO_HEAD] * 10_000 + [EXAMPLE]), "0  10000 0 0 0 0 0 0 0  0 0  0 0 0")
         self.prints(season([costing(2)] * 10_000 + [EXAMPLE]), "10000  0 0 0 0 0 0 0 0  0 0  20000 2 1")
         for cut in [1, 2, 3, 4]:
-            self.prints(season([NO_WORDS] * 10_000) + length(1)[:cut], "0  10000 0 0 0 0 0 0 0  0 0  0 0 0")
+            self.prints(season([NO_WORDS] * 10_000) + length(1)[:cut], "10000  0 0 0 0 0 0 0 0  0 0  0 0 1")
 
     def test_last_of_10000_sheets(self):
-        first = season([NO_WORDS] * 9_999)
+        first = season([NO_HEAD] * 9_999)
         self.prints(first + b"\0\0\0", "0  10000 0 0 0 0 0 0 0  0 0  0 0 0")
         self.prints(first + length(16_001) + bytes(64_004) + season([EXAMPLE]), "0  9999 0 0 0 0 1 0 0  0 0  0 0 0")
 
@@ -114,6 +117,12 @@ class Counts(Lines):
         self.prints(season([paused]), "0  0 0 0 0 0 0 0 0  1 0  0 0 0", SMALL)
         self.prints(season([paused]), "0  0 0 0 0 0 0 0 1  0 0  0 0 0")
 
+    def test_no_variables(self):
+        # Costs of 0 and 7, a forbidden one, one with a binding, and no words at all.
+        all_entries = [], [([], 3), ([], 4)], [([], 3), forbidden()], [([(0, 0)], 1)]
+        sheets = [as_bytes(instance([], entries)) for entries in all_entries]
+        self.prints(season([*sheets, NO_WORDS]), "3  0 0 1 0 0 0 0 1  0 0  7 7 2")
+
     def test_some_values_forbidden(self):
         some = as_bytes(sheet([[HERE] * 3], [forbidden((0, 0)), ([(0, 1)], 7), forbidden((0, 2))]))
         self.prints(season([some]), "1  0 0 0 0 0 0 0 0  0 0  7 7 1")
@@ -132,7 +141,7 @@ class Counts(Lines):
         self.prints(season(sheets), "1  0 0 0 0 0 0 1 0  2 3  4 4 3", SMALL)
 
     def test_every_sheet_counts_once(self):
-        sheets = [EXAMPLE, NO_WORDS, GROWING, EIGHT_ROWS, EXAMPLE[:-4], CONSTANT_FIRST, FORBIDDEN_SHEET, costing(1)] * 3
+        sheets = [EXAMPLE, NO_WORDS, NO_HEAD, GROWING, EIGHT_ROWS, EXAMPLE[:-4], CONSTANT_FIRST, FORBIDDEN_SHEET, costing(1)] * 3
         numbers = [int(number) for number in season_line(season(sheets) + b"\0", SMALL).split()]
         self.assertEqual(sum(numbers[:11]), len(sheets) + 1)
 
@@ -157,16 +166,16 @@ class Costs(Lines):
     def test_all_costs_0(self):
         self.prints(season([costing(0)]), "1  0 0 0 0 0 0 0 0  0 0  0 0 1")
         self.prints(season([costing(0)] * 3), "3  0 0 0 0 0 0 0 0  0 0  0 0 1")
-        self.prints(season([NO_WORDS, costing(0), costing(0)]), "2  1 0 0 0 0 0 0 0  0 0  0 0 2")
+        self.prints(season([NO_HEAD, costing(0), costing(0)]), "2  1 0 0 0 0 0 0 0  0 0  0 0 2")
 
     def test_cost_0_before_a_larger_one(self):
         self.prints(season([costing(0), costing(1), costing(1)]), "3  0 0 0 0 0 0 0 0  0 0  2 1 2")
 
     def test_nothing_planned(self):
-        self.prints(season([NO_WORDS, EXAMPLE[:4]]), "0  1 1 0 0 0 0 0 0  0 0  0 0 0")
+        self.prints(season([NO_HEAD, EXAMPLE[:4]]), "0  1 1 0 0 0 0 0 0  0 0  0 0 0")
         self.prints(season([GROWING, CONSTANT_FIRST]), "0  0 0 0 0 0 0 0 0  1 1  0 0 0", SMALL)
 
     def test_every_sheet_is_numbered(self):
         long = length(16_001) + bytes(64_004)
-        self.prints(season([NO_WORDS, EXAMPLE[:4]]) + long + season([GROWING, CONSTANT_FIRST, EIGHT_ROWS, costing(4)]),
+        self.prints(season([NO_HEAD, EXAMPLE[:4]]) + long + season([GROWING, CONSTANT_FIRST, EIGHT_ROWS, costing(4)]),
                     "1  1 1 0 0 0 1 1 0  1 1  4 4 7", SMALL)

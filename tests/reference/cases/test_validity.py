@@ -55,7 +55,9 @@ class EitherForm:
 
     def test_good(self):
         self.accepted(self.good)
-        self.accepted(self.made([1], ""))
+        for sizes in ([1], []):
+            self.accepted(self.made(sizes, ""))
+            self.accepted(self.made(sizes, "empty:5"))
 
     def test_too_short(self):
         for length in range(4):

@@ -8,7 +8,9 @@ from .inputs import Entry, Instance, entry_words, instance_words
 from .limits import FORBIDDEN_WEIGHT, MAX_SIZE, MAX_WEIGHT
 from .tables import Row, rows_start, table_words
 
-NO_WORDS = b""      # a sheet of a season
+# Sheets of a season: one of no words, which is a field without variables, and one that is refused at its head.
+NO_WORDS = b""
+NO_HEAD = bytes(4)
 # An even share of the greatest weight for each of 4,096 rows, rounded down.
 SHARE = MAX_WEIGHT // 4_096
 # The weight of the first of 4,096 rows and that of each other one: they add up to the greatest weight, to one more, to 1 << 64,

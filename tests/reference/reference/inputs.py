@@ -59,7 +59,8 @@ class Reader:
 
 
 def read_head(reader):
-    return reader.take_payload(words.HEAD, 1, MAX_VARIABLES, BAD_HEAD)
+    """The number of variables, of which there are none where there are no words at all (document 02, wish 7)."""
+    return 0 if reader.ended() else reader.take_payload(words.HEAD, 0, MAX_VARIABLES, BAD_HEAD)
 
 
 def read_size(reader):
@@ -192,10 +193,15 @@ def instance_words(instance):
     return [words.head(len(sizes))] + sizes + entry_words(instance.entries)
 
 
+def made_words(sheet):
+    """The words of the instance made from a sheet; a sheet of no words makes an instance of none."""
+    return instance_words(instance_of(read_sheet(sheet))) if sheet else []
+
+
 def make_instance(sheet, target):
     """The instance made from a sheet, written to the front of the target."""
     try:
-        written = instance_words(instance_of(read_sheet(sheet)))
+        written = made_words(sheet)
         require(len(written) <= len(target), TARGET_TOO_SHORT)
     except Refused as refusal:
         return Made(refusal.number, 0, list(target))

@@ -1,6 +1,6 @@
 """The limits of every format, in one place."""
 
-MAX_VARIABLES = 12      # document 01: stations of a field
+MAX_VARIABLES = 12      # document 01: stations of a field, of which there may be none (document 02, wish 7)
 MAX_SIZE = 8            # document 01: spots of a station
 MAX_COST = 65_535
 MAX_ENTRIES = 4_096

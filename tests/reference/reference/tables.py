@@ -56,7 +56,7 @@ def table_words(sizes, rows, length, form=SIX):
 
 def read_table(source, form=SIX):
     """The table of this form in the given words, or refusal 9."""
-    count = valid_payload(source, 0, words.HEAD, 1, MAX_VARIABLES)
+    count = valid_payload(source, 0, words.HEAD, 0, MAX_VARIABLES)
     start = rows_start(count)
     require(start <= len(source), BAD_TABLE)
     sizes = tuple(valid_payload(source, 1 + variable, words.SIZE, 1, MAX_SIZE) for variable in range(count))

@@ -16,13 +16,13 @@ abbrev μ-loop : tie.MeasureT-loop
 μ-loop instance at fulls pending₀ count₀ i₀ pending count i = length instance - i
 
 loop-holds : tie.Need-loop-holds Inv-loop μ-loop
-loop-holds c = counted-start _ _ _ _ (c .before .before .pre .0) (c .empty .ensures)
+loop-holds c = counted-start _ _ _ _ (c .empty .ensures)
 
 fresh-requires : tie.Need-fresh-requires Inv-loop μ-loop
 fresh-requires c κs =
     let l = c .before .before in
     let p = l .before .before .before .pre in
-    (l .loop .inv .«open» .from, l .loop .inv .upto, p .1, l .loop .inv .«open» .holds .packed, p .2)
+    (l .loop .inv .«open» .from, omega arith, p .0, l .loop .inv .«open» .holds .packed, p .1)
 
 add-count : tie.Need-add-count Inv-loop μ-loop
 add-count c = omega (arith, c .fresh .ensures .1, c .before .before .before .loop .inv .few)
@@ -32,8 +32,8 @@ signs-after-requires c κs =
     let l = c .before .before .before in
     let p = l .before .before .before .pre in (
       l .loop .inv .«open» .holds .packed,
-      p .1,
-      proper-read (p .2) _ (l .loop .inv .«open» .from) (c .before .before .loop-test .taken) _ refl,
+      p .0,
+      proper-read (p .1) _ (l .loop .inv .«open» .from) (c .before .before .loop-test .taken) _ refl,
     )
 
 loop-again : tie.Need-loop-again Inv-loop μ-loop

@@ -38,7 +38,7 @@ has-room-requires c κs =
     let t = s .args .t .now in
     let z = f .before .before .before .before .before .if1 .left in
     let long = f .before .before .before .if2 .left in
-    (instance-known ws t _ (v .validate .ensures) z .within, f .full-signs .ensures .packed, words-proper ws t _ (v .validate .ensures) z long _ (f .full-signs .ensures))
+    (f .full-signs .ensures .packed, words-proper ws t _ (v .validate .ensures) z long _ (f .full-signs .ensures))
 
 returns-3 : tie.Need-returns-3
 returns-3 d =

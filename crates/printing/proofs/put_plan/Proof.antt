@@ -1,4 +1,4 @@
--- `put_plan` puts the head and then the lines of the assignment; the sheet's first word is the number of variables.
+-- `put_plan` puts the head and then the lines of the assignment; how many there are the sheet's head says.
 use native.Mathlib.Omega.{arith}
 use mathlib.Core.Path.{_≡_, _∙_}
 use lib.ListN.{length}
@@ -10,34 +10,29 @@ use Rattle.printing.proofs.Plans.{variables-read}
 use Rattle.printing.proofs.put_plan.Statement.{statement}
 use Rattle.printing.proofs.put_plan.Tie as tie
 
-shared-slice-read-payload : tie.Need-shared-slice-read-payload
-shared-slice-read-payload c = variables-read _ (c .before .before .before .before .pre .0 .fine) .0
-
 put-lines-requires : tie.Need-put-lines-requires
 put-lines-requires c κs =
     let h = c .before .before .before .before .before in
-    let s = h .before .before .before .before .before in
+    let s = h .before .before .before .before in
     let v = variables-read _ (s .pre .0 .fine) in
-    let n : h .payload .result ≡ length (sheetSizes (now (s .args .sheet))) = h .payload .ensures .0 ∙ v .1 in
-    (s .pre .0, (n, omega (arith, v .2), omega (arith, v .2, s .pre .1)))
+    let n : h .variables-of .result ≡ length (sheetSizes (now (s .args .sheet))) = h .variables-of .ensures ∙ v .0 in
+    (s .pre .0, (n, omega (arith, v .1), omega (arith, v .1, s .pre .1)))
 
 returns : tie.Need-returns
 returns c =
     let h = c .before .before .before .before .before .before .before .before in
-    let s = h .before .before .before .before .before in
+    let s = h .before .before .before .before in
     let v = variables-read _ (s .pre .0 .fine) in
-    let n : h .payload .result ≡ length (sheetSizes (now (s .args .sheet))) = h .payload .ensures .0 ∙ v .1 in
+    let n : h .variables-of .result ≡ length (sheetSizes (now (s .args .sheet))) = h .variables-of .ensures ∙ v .0 in
     let first = c .before .before .before .before .before .before .put-plan-head .ensures in
     let rest = c .before .before .put-lines .ensures in
-    (plan-put _ _ _ _ _ (now (s .args .out)) _ _ _ _ n (first .0) (rest .0), omega (arith, v .2, n))
+    (plan-put _ _ _ _ _ (now (s .args .out)) _ _ _ _ n (first .0) (rest .0), omega (arith, v .1, n))
 
 pub put-plan-spec : {M : Type 1} → statement M
 put-plan-spec =
     tie.close
     (tie.spec
-    shared-slice-read-payload
     (λ c κs. search needs)
-    (λ c. search needs)
     (λ c κs. search needs)
     put-lines-requires
     (λ c. search needs)

@@ -15,7 +15,7 @@ returns c =
     ∙ no-head _ _ (sym (c .before .before .enum-told .given .1) ∙ c .before .before .before .before .read-head .ensures)
 
 read-stations-requires : tie.Need-read-stations-requires
-read-stations-requires c κs = let b = headed-bounds _ _ (headed-of _ _ (sym (c .before .head .given .1) ∙ c .before .before .before .read-head .ensures)) in (b .1, b .2)
+read-stations-requires c κs = let b = headed-bounds _ _ (headed-of _ _ (sym (c .before .head .given .1) ∙ c .before .before .before .read-head .ensures)) in b
 
 returns-2 : tie.Need-returns-2
 returns-2 c =
@@ -25,12 +25,12 @@ returns-2 c =
 count-legs-requires : tie.Need-count-legs-requires
 count-legs-requires c κs =
     let b = headed-bounds _ _ (headed-of _ _ (sym (c .before .before .before .before .before .before .head .given .1) ∙ c .before .before .before .before .before .before .before .before .read-head .ensures)) in
-    (b .1, sizes-long (c .before .before .before .before .before .before .before .before .before .before .args .words .now) _ (headed-of _ _ (sym (c .before .before .before .before .before .before .head .given .1) ∙ c .before .before .before .before .before .before .before .before .read-head .ensures)) _ (c .before .before .before .before .read-stations .ensures) (c .before .before .if1 .left))
+    (b .0, sizes-long (c .before .before .before .before .before .before .before .before .before .before .args .words .now) _ (headed-of _ _ (sym (c .before .before .before .before .before .before .head .given .1) ∙ c .before .before .before .before .before .before .before .before .read-head .ensures)) _ (c .before .before .before .before .read-stations .ensures) (c .before .before .if1 .left))
 
 scan-entries-requires : tie.Need-scan-entries-requires
 scan-entries-requires c κs =
     let h = headed-of _ _ (sym (c .before .before .before .before .before .before .before .before .head .given .1) ∙ c .before .before .before .before .before .before .before .before .before .before .read-head .ensures) in
-    (headed-bounds _ _ h .1, entries-within _ _ h _ (c .before .before .before .before .before .before .read-stations .ensures) (c .before .before .before .before .if1 .left))
+    (headed-bounds _ _ h .0, entries-within _ _ h _ (c .before .before .before .before .before .before .read-stations .ensures) (c .before .before .before .before .if1 .left))
 
 returns-3 : tie.Need-returns-3
 returns-3 c =

@@ -176,11 +176,11 @@ module _ {M : Type 1} (𝓤 : URA M) (H : Heap 𝓤) (A : Atoms 𝓤) (W : Given
       (λ κs qs bounds a g are. needs 𝓤 _ _ (λ asked.
       walk 𝓤 H A W mem run (κs .0) (qs .0) (a .0) (a .1 .0) (a .1 .1 .0) (are .1 .0 .1) (asked .2) 𝓣 known-making known-asking known-moving known-testing known-changing
       (are .0) (are .1 .1 .0) (subst (λ (i : ℕ). i ≤ length (now (a .0))) (sym (asked .0)) (asked .1))
-      (fine-at (now (a .0)) (a .1 .0) (a .1 .1 .0) (asked .0) (asked .3))))
+      (fine-at (now (a .0)) (a .1 .0) (a .1 .1 .0) (asked .0) (asked .1) (asked .3))))
     where
-      fine-at : (ws : List ℕ) (at : ℕ) (b : Sizing) → at ≡ 1 → b ≡ sizingOf (b .left) → SizesFine ws (b .left) b (drop at ws)
-      fine-at ws at b e f =
-          subst (λ (i : ℕ). SizesFine ws (b .left) b (drop i ws)) (sym e) (subst (λ (x : Sizing). SizesFine ws (b .left) x (drop 1 ws)) (sym f) (fine-start ws (b .left)))
+      fine-at : (ws : List ℕ) (at : ℕ) (b : Sizing) → at ≡ 1 → 1 ≤ length ws → b ≡ sizingOf (b .left) → SizesFine ws (b .left) b (drop at ws)
+      fine-at ws at b e some f =
+          subst (λ (i : ℕ). SizesFine ws (b .left) b (drop i ws)) (sym e) (subst (λ (x : Sizing). SizesFine ws (b .left) x (drop 1 ws)) (sym f) (fine-start ws (b .left) some))
 
   meets : Meets 𝓤 H A through.signature (WpFn 𝓤 H (𝓣 .C) (𝓣 .Λ) code.function) (through.spec 𝓤 H A mem run)
   meets =
