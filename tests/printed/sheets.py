@@ -224,8 +224,8 @@ def odd_lengths():
 
 def all_sheets():
     """Every sheet as a name and its bytes."""
-    for group in (plans, no_stations, some_forbidden, all_forbidden, bad_heads, bad_stations, bad_entries, bad_costs, long_inputs, capacities,
-                  high_bounds, full_in_the_run, limits):
+    for group in (plans, no_stations, some_forbidden, all_forbidden, bad_heads, bad_stations, bad_entries, bad_costs, long_inputs,
+                  capacities, high_bounds, full_in_the_run, limits):
         for name, source in group():
             yield name, as_bytes(source)
     yield from odd_lengths()

@@ -10,4 +10,5 @@ FILE and SEASON may be -, the standard input. The result goes to the standard ou
 made or has to be empty. A faulty sheet has no text: unpack --text writes it as words and names it on the standard error.
 Words whose bytes read as text are packed as text; unpack names such a sheet too. That every plan has a forbidden
 combination (refusal 15) is found by planning alone, so why does not say it. A field with no stations has the line
-'stations 0' before its costs, or no words: an empty file is such a sheet, and so is a text of comments alone."""
+'stations 0' before its costs, or no words: an empty file is such a sheet, and so is a text of comments alone. pack
+takes one to three bytes for words that are cut, whatever they are."""

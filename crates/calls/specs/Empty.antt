@@ -1,18 +1,17 @@
 -- Document 02, a field with no stations: what holds after every list of calls where an accepted instance has no variables, and both forms of such an
 -- instance, no words and a head of 0 with constant costs, on words through every call on tables.
-use Prim.Native.Nat.{ℕ, _+_, _*_, _≤_, _<_}
+use Prim.Native.Nat.{ℕ, _+_, _≤_, _<_}
 use mathlib.Core.Path.{_≡_}
 use mathlib.Core.Bool.{true, false}
 use mathlib.Core.List.{List, [], _∷_}
 use lib.ListN.{replicate}
-use Rattle.wcsp.specs.Row.{_weighted_, emptyWeight}
+use Rattle.wcsp.specs.Row.{emptyWeight}
 use Rattle.wcsp.specs.Entry.{Entry}
 use Rattle.wcsp.specs.Empty.{allCosts}
-use Rattle.words.specs.Layout.{headWord, sizeWord, bindingWord, costWord, forbiddenWord, countWord, stepWord}
+use Rattle.words.specs.Layout.{headWord, sizeWord, bindingWord, costWord, signsWord, weightWord, stepWord, countWord, forbiddenWord, highWord}
 use Rattle.fields.specs.Limits.{forbiddenCost}
 use Rattle.fields.specs.Answers.{refused, good}
 use Rattle.input.specs.Instance.{instanceFault, sizesOf, entriesOf}
-use Rattle.table.specs.Layout.{tableWordsIn, tableWords}
 use Rattle.table.specs.Meaning.{ownRows}
 use Rattle.table.specs.Valid.{validTableIn, validTable}
 use Rattle.fiveform.specs.Five.{fiveForm}
@@ -27,7 +26,7 @@ use Rattle.checker.specs.Calls.{checkCall}
 use Rattle.calls.specs.Calls.{Call, State, afterCalls}
 use Rattle.calls.specs.Demand.{Comes}
 use Rattle.calls.specs.Driver.{driveAll}
-use Rattle.calls.specs.Witness.{RunGives}
+use Rattle.calls.specs.Witness.{p1Asks, RunGives}
 
 -- what holds of a table of six-word rows that calls left, and what further calls give; `Upheld` holds of it too
 pub record EmptyUpheld (es : List Entry) (st : State) : Type 0 where
@@ -51,24 +50,27 @@ EmptyUpholds = (inst : List ℕ) (st : State) (calls : List Call) → Comes inst
 abbrev pub constants : List ℕ
 constants = headWord 0 ∷ costWord 5 ∷ costWord 7 ∷ []
 
-abbrev pub drowned : List ℕ
-drowned = headWord 0 ∷ costWord 5 ∷ forbiddenWord ∷ []
+abbrev pub forbiddenConstant : List ℕ
+forbiddenConstant = headWord 0 ∷ costWord 5 ∷ forbiddenWord ∷ []
 
 -- slices of nine words, whatever lies in them: room for one row and a word
 abbrev pub nine : List ℕ
 nine = replicate 9 7
 
--- the table of no rows, and that of the empty row at this weight
+-- the table of no rows, and that of the empty row at a weight of at most 28 bits, in six words and in five
 abbrev pub noRows : List ℕ
 noRows = headWord 0 ∷ countWord 0 ∷ replicate 7 0
 
 abbrev pub oneRow : ℕ → List ℕ
-oneRow w = tableWords 9 [] ([] weighted w ∷ [])
+oneRow w = headWord 0 ∷ countWord 1 ∷ signsWord 0 0 ∷ signsWord 1 0 ∷ signsWord 2 0 ∷ signsWord 3 0 ∷ weightWord w ∷ highWord 0 ∷ 0 ∷ []
+
+abbrev pub oneFive : ℕ → List ℕ
+oneFive w = headWord 0 ∷ countWord 1 ∷ signsWord 0 0 ∷ signsWord 1 0 ∷ signsWord 2 0 ∷ signsWord 3 0 ∷ weightWord w ∷ []
 
 pub record EmptyFields : Type 0 where
   -- which instances there are
-  pub accepts : (instanceFault [] ≡ 0) × (instanceFault constants ≡ 0) × (instanceFault drowned ≡ 0)
-  pub pair : instanceFault (headWord 0 ∷ bindingWord 0 0 ∷ costWord 5 ∷ []) ≡ 3
+  pub accepts : (instanceFault [] ≡ 0) × (instanceFault constants ≡ 0) × (instanceFault forbiddenConstant ≡ 0)
+  pub binding : instanceFault (headWord 0 ∷ bindingWord 0 0 ∷ costWord 5 ∷ []) ≡ 3
   pub station : instanceFault (headWord 0 ∷ sizeWord 1 ∷ []) ≡ 3
   pub dear : instanceFault (headWord 0 ∷ costWord 65536 ∷ []) ≡ 4
   pub thirteen : instanceFault (headWord 13 ∷ []) ≡ 1
@@ -76,16 +78,19 @@ pub record EmptyFields : Type 0 where
   pub codesNothing : encodeCall [] nine ≡ record { answer = good 0; table = noRows }
   pub codesHead : encodeCall (headWord 0 ∷ []) nine ≡ record { answer = good 0; table = noRows }
   pub codesConstants : encodeCall constants nine ≡ record { answer = good 1; table = oneRow 12 }
-  pub codesDrowned : encodeCall drowned nine ≡ record { answer = good 1; table = oneRow (forbiddenCost + 5) }
+  pub codesForbidden : encodeCall forbiddenConstant nine ≡ record { answer = good 1; table = oneRow (forbiddenCost + 5) }
   pub twoWords : encodeCall [] (7 ∷ 7 ∷ []) ≡ record { answer = good 0; table = headWord 0 ∷ countWord 0 ∷ [] }
   pub oneWord : encodeCall [] (7 ∷ []) ≡ record { answer = refused 10; table = 7 ∷ [] }
   pub noRoom : encodeCall constants (replicate 7 7) .answer ≡ refused 12
   -- which tables there are, in both forms
-  pub valid : (validTable noRows ≡ true) × (validTable (oneRow 12) ≡ true) × (validTableIn fiveForm noRows ≡ true)
-  pub short : (validTable (headWord 0 ∷ []) ≡ false) × (validTableIn fiveForm (headWord 0 ∷ []) ≡ false) × (validTable [] ≡ false)
+  pub valid : (validTable noRows ≡ true) × (validTable (oneRow 12) ≡ true)
+  pub validFive : (validTableIn fiveForm noRows ≡ true) × (validTableIn fiveForm (oneFive 12) ≡ true)
+  pub short : (validTable (headWord 0 ∷ []) ≡ false) × (validTable [] ≡ false)
+  pub shortFive : (validTableIn fiveForm (headWord 0 ∷ []) ≡ false) × (validTableIn fiveForm [] ≡ false)
   pub zeros : (validTable (replicate 9 0) ≡ false) × (validTableIn fiveForm (replicate 9 0) ≡ false)
   -- there is nothing to resolve
-  pub stepped : stepCall (oneRow 12) ≡ record { answer = Done; table = oneRow 12 }
+  pub stepsNothing : stepCall noRows ≡ record { answer = Done; table = noRows }
+  pub stepsConstants : stepCall (oneRow 12) ≡ record { answer = Done; table = oneRow 12 }
   pub ranNothing : RunGives noRows 5 [] 0 (0 ∷ 0 ∷ 0 ∷ [])
   pub ranConstants : RunGives (oneRow 12) 0 [] 0 (0 ∷ 0 ∷ 12 ∷ [])
   -- the plan of no bytes
@@ -100,18 +105,18 @@ pub record EmptyFields : Type 0 where
   -- the claim of no bytes at the sum
   pub checksNothing : checkCall [] [] [] 0 nine ≡ record { answer = record { number = 0; steps = 0 }; table = noRows }
   pub checksConstants : checkCall constants [] [] 12 nine ≡ record { answer = record { number = 0; steps = 0 }; table = oneRow 12 }
-  pub checksDrowned : checkCall drowned [] [] (forbiddenCost + 5) nine .answer ≡ record { number = 0; steps = 0 }
+  pub checksForbidden : checkCall forbiddenConstant [] [] (forbiddenCost + 5) nine .answer ≡ record { number = 0; steps = 0 }
   pub cheaper : checkCall constants [] [] 11 nine .answer ≡ record { number = 7; steps = 0 }
   pub byte : checkCall [] [] (0 ∷ []) 0 nine .answer ≡ record { number = 7; steps = 0 }
   pub step : checkCall constants (stepWord 0 0 1 ∷ []) [] 12 nine .answer ≡ record { number = 6; steps = 0 }
   -- conversions there and back
   pub backNothing : toFiveCall noRows (9 ∷ 9 ∷ []) ≡ record { answer = good 0; target = headWord 0 ∷ countWord 0 ∷ [] }
   pub thereNothing : toSixCall (headWord 0 ∷ countWord 0 ∷ []) nine ≡ record { answer = good 0; target = noRows }
-  pub backConstants : toFiveCall (oneRow 12) (replicate 7 9) ≡ record { answer = good 1; target = tableWordsIn fiveForm 7 [] ([] weighted 12 ∷ []) }
-  pub thereConstants : toSixCall (tableWordsIn fiveForm 7 [] ([] weighted 12 ∷ [])) nine ≡ record { answer = good 1; target = oneRow 12 }
+  pub backConstants : toFiveCall (oneRow 12) (replicate 7 9) ≡ record { answer = good 1; target = oneFive 12 }
+  pub thereConstants : toSixCall (oneFive 12) nine ≡ record { answer = good 1; target = oneRow 12 }
   pub noPlace : toSixCall (headWord 0 ∷ countWord 0 ∷ []) (9 ∷ []) ≡ record { answer = refused 10; target = 9 ∷ [] }
-  -- a step, a run of limit 5 with a slice of 1 word and a plan into 1 byte, by the driver: no step word is written, and no byte
-  pub drivenNothing : driveAll [] nine (0 ∷ (268435456 + 5 * 16384 + 1) ∷ (2 * 268435456 + 1) ∷ []) (6 ∷ []) (8 ∷ [])
+  -- a step, a run and a plan, by the driver: no step word is written, and no byte
+  pub drivenNothing : driveAll [] nine p1Asks (6 ∷ []) (8 ∷ [])
       ≡ record { answer = record { number = 0; steps = 0 }; table = noRows; out = 6 ∷ []; target = 8 ∷ [] }
-  pub drivenConstants : driveAll constants nine (0 ∷ (268435456 + 5 * 16384 + 1) ∷ (2 * 268435456 + 1) ∷ []) (6 ∷ []) (8 ∷ [])
+  pub drivenConstants : driveAll constants nine p1Asks (6 ∷ []) (8 ∷ [])
       ≡ record { answer = record { number = 0; steps = 0 }; table = oneRow 12; out = 6 ∷ []; target = 8 ∷ [] }

@@ -1,10 +1,12 @@
 -- An accepted instance has sizes and entries within every limit, and its forbidden combinations are those that its words of kind 11 close.
 use Prim.Native.Nat.{ℕ, _+_}
 use native.Mathlib.Omega.{arith}
-use mathlib.Core.Path.{_≡_, refl, sym, _∙_}
+use mathlib.Core.Path.{_≡_, refl, sym, subst, _∙_}
 use mathlib.Core.Bool.{Bool, true, false, cond}
 use mathlib.Core.List.{List, [], _∷_}
 use lib.ListN.{getD, drop}
+use Rattle.wcsp.specs.Entry.{WellFormed}
+use Rattle.wcsp.proofs.Empty.{leastIsSum}
 use Rattle.words.specs.Layout.{payloadOf}
 use Rattle.fields.specs.Front.{goodSizes}
 use Rattle.fields.proofs.Sizes.{field-sizes, sizes-each}
@@ -13,7 +15,7 @@ use Rattle.entries.specs.Entries.{entriesFault}
 use Rattle.entries.proofs.Accepting.{entries-accepted}
 use Rattle.entries.proofs.Within.{costs-within}
 use Rattle.input.specs.Instance.{stationsFault, instanceFault, sizesOf, entriesOf}
-use Rattle.input.specs.Accepted.{FaultlessIsAccepted, ForbiddenByWords}
+use Rattle.input.specs.Accepted.{FaultlessIsAccepted, LeastOfConstants, ForbiddenByWords}
 use Rattle.input.proofs.Validating.{Headed, withoutWords, headed-bounds, headed-payload, headed-by, sizes-are, entries-are, sizes-number, instance-apart}
 
 -- a test that has to be passed for no fault
@@ -43,6 +45,10 @@ faultlessIsAccepted ws e =
       head = k ∙ sym (headed-payload ws n h);
       entries = rw (entries-are ws n h) (entries-accepted (sizesOf ws) 0 (drop (n + 1) ws) (omega arith) f);
     }
+
+pub leastOfConstants : LeastOfConstants
+leastOfConstants ws e empty =
+    leastIsSum (entriesOf ws) (subst (λ ds. WellFormed ds (entriesOf ws)) empty (faultlessIsAccepted ws e .entries .wellFormed))
 
 pub forbiddenByWords : ForbiddenByWords
 unfolding entriesOf

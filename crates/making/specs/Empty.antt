@@ -19,7 +19,7 @@ pub record EmptyMakes : Type 0 where
   pub short : makeCall (headWord 0 ∷ []) [] ≡ record { answer = refused 10; target = [] }
   pub constants : makeCall (headWord 0 ∷ costWord 5 ∷ forbiddenWord ∷ []) (9 ∷ 9 ∷ 9 ∷ 8 ∷ [])
       ≡ record { answer = good 3; target = headWord 0 ∷ costWord 5 ∷ forbiddenWord ∷ 8 ∷ [] }
-  pub pair : sheetFault (headWord 0 ∷ bindingWord 0 0 ∷ costWord 5 ∷ []) ≡ 3
+  pub binding : sheetFault (headWord 0 ∷ bindingWord 0 0 ∷ costWord 5 ∷ []) ≡ 3
   pub station : sheetFault (headWord 0 ∷ sizeWord 1 ∷ []) ≡ 3
   pub noHead : sheetFault (costWord 5 ∷ []) ≡ 1
   pub twelve : sheetFault (headWord 12 ∷ []) ≡ 2

@@ -119,5 +119,5 @@ emptyBytes =
     record {
       nothing = record { short = omega arith; words = refl; fine = refl; empty = refl };
       constants = record { short = omega arith; words = refl; fine = refl; empty = refl };
-      drowned = record { short = omega arith; words = refl; fine = refl; empty = refl };
+      forbidden = record { short = omega arith; words = refl; fine = refl; empty = refl };
     }

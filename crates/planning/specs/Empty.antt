@@ -20,7 +20,8 @@ pub record EmptySheet (bytes : List ℕ) : Type 0 where
   pub fine : sheetFault (wordsIn bytes) ≡ 0
   pub empty : sheetSizes (wordsIn bytes) ≡ []
 
--- its value, its words being their own instance (`EmptyMade`): a plan at the sum of the costs, without a step, or 15 where a constant cost forbids every plan; never 10, 12, a pause or a full table
+-- its value, its words being their own instance (`EmptyMade`): a plan at the sum of the costs, without a step, or 15 where a constant cost forbids
+-- every plan; never 10, 12, a pause or a full table
 pub record EmptySolved (es : List Entry) (s : Solved) : Type 0 where
   pub planned : allCosts es < forbiddenCost → (s .ending ≡ Ending.Planned) × (s .steps ≡ 0) × (s .bound ≡ allCosts es)
   pub refused : forbiddenCost ≤ allCosts es → s ≡ refusedSolved 15
@@ -32,10 +33,10 @@ EmptySolves = (bytes : List ℕ) → EmptySheet bytes → EmptySolved (entriesOf
 abbrev pub constantBytes : List ℕ
 constantBytes = 0 ∷ 0 ∷ 0 ∷ 16 ∷ 12 ∷ 0 ∷ 0 ∷ 64 ∷ []
 
-abbrev pub drownedBytes : List ℕ
-drownedBytes = 0 ∷ 0 ∷ 0 ∷ 16 ∷ 0 ∷ 0 ∷ 0 ∷ 176 ∷ []
+abbrev pub forbiddenBytes : List ℕ
+forbiddenBytes = 0 ∷ 0 ∷ 0 ∷ 16 ∷ 0 ∷ 0 ∷ 0 ∷ 176 ∷ []
 
 pub record EmptyBytes : Type 0 where
   pub nothing : EmptySheet []
   pub constants : EmptySheet constantBytes
-  pub drowned : EmptySheet drownedBytes
+  pub forbidden : EmptySheet forbiddenBytes

@@ -8,7 +8,7 @@ use Rattle.fields.specs.Entries.{closesEntry, costOf, entriesFrom}
 use Rattle.input.specs.Instance.{entriesOf}
 use Rattle.text.specs.Text.{digitsIn, line, planHead}
 use Rattle.littleendian.specs.Words.{wordsIn}
-use Rattle.planning.specs.Empty.{constantBytes, drownedBytes}
+use Rattle.planning.specs.Empty.{constantBytes, forbiddenBytes}
 use Rattle.planning.proofs.Empty.{emptySolves, emptyBytes}
 use Rattle.printing.specs.Printed.{variableLines, endingText, solvedText}
 use Rattle.printing.specs.Empty.{EmptyPrints, EmptyTexts}
@@ -30,5 +30,5 @@ emptyTexts =
     record {
       nothing = emptyPrints [] (emptyBytes .nothing) .planned (omega arith);
       constants = emptyPrints constantBytes (emptyBytes .constants) .planned (omega arith);
-      drowned = emptyPrints drownedBytes (emptyBytes .drowned) .refused (omega arith);
+      forbidden = emptyPrints forbiddenBytes (emptyBytes .forbidden) .refused (omega arith);
     }

@@ -7,7 +7,7 @@ use Rattle.fields.specs.Limits.{forbiddenCost}
 use Rattle.input.specs.Instance.{entriesOf}
 use Rattle.text.specs.Text.{refusedLine, planHead}
 use Rattle.littleendian.specs.Words.{wordsIn}
-use Rattle.planning.specs.Empty.{EmptySheet, constantBytes, drownedBytes}
+use Rattle.planning.specs.Empty.{EmptySheet, constantBytes, forbiddenBytes}
 use Rattle.printing.specs.Printed.{printed}
 
 -- the text of a sheet with no variables: PLAN, the sum of its costs and no steps, or REFUSED 15 where a constant cost forbids every plan
@@ -23,4 +23,4 @@ pub record EmptyTexts : Type 0 where
   pub nothing : printed []
       ≡ 80 ∷ 76 ∷ 65 ∷ 78 ∷ 10 ∷ 67 ∷ 79 ∷ 83 ∷ 84 ∷ 32 ∷ 48 ∷ 10 ∷ 83 ∷ 84 ∷ 69 ∷ 80 ∷ 83 ∷ 32 ∷ 48 ∷ 10 ∷ []
   pub constants : printed constantBytes ≡ planHead 12 0
-  pub drowned : printed drownedBytes ≡ refusedLine 15
+  pub forbidden : printed forbiddenBytes ≡ refusedLine 15

@@ -84,7 +84,7 @@ module _ (t : List ℕ) where
   abbrev counts : ℕ → Bool
   counts n = isCount (getD t (n + 1) 0)
 
-  pub too-short : length t ≡ 0 → Invalid ≡ frontTable t
+  pub too-short : length t ≤ 1 → Invalid ≡ frontTable t
   too-short h = no-front t (λ n e v. omega (arith, leb-true (rowsAt n) (length t) (and-left (placed n) (sized n) (and-left (placed n && sized n) (counts n) v))))
 
   pub no-head : headIn (getD t 0 0) ≡ none → Invalid ≡ frontTable t

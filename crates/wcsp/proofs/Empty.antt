@@ -11,7 +11,7 @@ use Rattle.wcsp.specs.Row.{Row, _weighted_, merge, add}
 use Rattle.wcsp.specs.Entry.{Binding, Entry, matches, cost, Rising, nilRising, consRising, WellFormed, nilEntries, consEntries, clauseOf, encodeOnto, encoded}
 use Rattle.wcsp.specs.Resolve.{nextPair}
 use Rattle.wcsp.specs.Bound.{total}
-use Rattle.wcsp.specs.Empty.{allCosts, OneAssignment, ConstantsAdd, EncodesToOne, NothingToResolve}
+use Rattle.wcsp.specs.Empty.{allCosts, OneAssignment, ConstantsAdd, LeastIsSum, EncodesToOne, NothingToResolve}
 
 in-range-none : (p : List ℕ) → InRange [] p → p ≡ []
 in-range-none [] nil = refl
@@ -30,6 +30,11 @@ pub constantsAdd : ConstantsAdd
 unfolding cost matches total
 constantsAdd [] nilEntries = refl
 constantsAdd (e ∷ es) (consEntries r f) = rw (binds-nothing 0 (e .bindings) r) (ap (λ n. e .cost + n) (constantsAdd es f))
+
+pub leastIsSum : LeastIsSum
+leastIsSum es f =
+    let c = constantsAdd es f in
+    record { assignment = []; inRange = nil; attained = c; least = λ p r. omega (arith, ap (cost es) (in-range-none p r), c) }
 
 -- ---- the encoding
 

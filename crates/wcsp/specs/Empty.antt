@@ -8,7 +8,7 @@ use mathlib.Core.Option.{none}
 use lib.Dec.{eqb}
 use Rattle.wcsp.specs.Clause.{InRange}
 use Rattle.wcsp.specs.Row.{Row, _weighted_}
-use Rattle.wcsp.specs.Entry.{Entry, cost, WellFormed, encoded}
+use Rattle.wcsp.specs.Entry.{Entry, cost, WellFormed, encoded, LeastCost}
 use Rattle.wcsp.specs.Resolve.{nextPair}
 use Rattle.wcsp.specs.Bound.{total}
 
@@ -23,6 +23,9 @@ OneAssignment = (p : List ℕ) → InRange [] p ↔ (p ≡ [])
 -- it has every cost, so the least cost is the sum
 abbrev pub ConstantsAdd : Type 0
 ConstantsAdd = (es : List Entry) → WellFormed [] es → cost es [] ≡ allCosts es
+
+abbrev pub LeastIsSum : Type 0
+LeastIsSum = (es : List Entry) → WellFormed [] es → LeastCost [] es (allCosts es)
 
 -- the encoding has one row, the empty one, which weighs the sum, and none where that is 0
 abbrev pub EncodesToOne : Type 0
