@@ -63,8 +63,7 @@ fn encoded(sheet: &[u32]) -> Buffers {
 }
 
 fn read_sheet(path: &str) -> Vec<u32> {
-    let bytes = fs::read(path).expect("the sheet can be read");
-    bytes.chunks_exact(4).map(|four| u32::from_le_bytes([four[0], four[1], four[2], four[3]])).collect()
+    plain::words::in_bytes(&fs::read(path).expect("the sheet can be read"))
 }
 
 fn variables_in(table: &[u32]) -> usize {

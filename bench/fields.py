@@ -43,18 +43,41 @@ FIELDS = [
 ]
 
 
+def strip(seed):
+    """For certificates: the values of each variable have a square of their own, of this width."""
+    return Field(f"strip-{seed}", 12, 8, 1_400, seed)
+
+
+STRIPS = [strip(seed) for seed in range(1, 13)]
+
+
 def sheet_of(field):
     rng = random.Random(f"{field.variables}x{field.values} {field.seed}")
-    places = [[(rng.randrange(field.width), rng.randrange(field.width)) for _ in range(field.values)]
-              for _ in range(field.variables)]
+    places = [places_in_square(rng, field) for _ in range(field.variables)]
     entries = single_costs(rng, field) + paired_costs(rng, field, 1, field.paired)
     if field.reach:
         entries += paired_costs(rng, field, field.reach, field.far)
     return fields.sheet(places, entries)
 
 
-def single_costs(rng, field):
-    return [([(variable, value)], rng.randint(1, 300))
+def strip_sheet(field):
+    """Squares from west to east, 30 to 79 metres from one to the next, with all places within 10 metres of their square's middle; each
+    place has a cost of 0 to 60."""
+    rng = random.Random(f"strip {field.seed}")
+    places, east, north = [], 0, 0
+    for _ in range(field.variables):
+        places.append(places_in_square(rng, field, east, north))
+        east, north = east + rng.randint(3_000, 7_500), north + rng.randint(-2_500, 2_500)
+    return fields.sheet(places, single_costs(rng, field, 0, 60))
+
+
+def places_in_square(rng, field, east=0, north=0):
+    """The places of one variable's values, in a square that begins there."""
+    return [(east + rng.randrange(field.width), north + rng.randrange(field.width)) for _ in range(field.values)]
+
+
+def single_costs(rng, field, least=1, most=300):
+    return [([(variable, value)], rng.randint(least, most))
             for variable in range(field.variables) for value in range(field.values)]
 
 
@@ -70,8 +93,7 @@ def settled_sheet(rows):
     they all leave out the same value there. Variables from 5 on lie in one place, so that travel between them is free."""
     core = Field("core", 5, 5, 30_000)
     rng = random.Random("settled")
-    places = [[(rng.randrange(core.width), rng.randrange(core.width)) for _ in range(core.values)]
-              for _ in range(core.variables)]
+    places = [places_in_square(rng, core) for _ in range(core.variables)]
     places += [[(0, 0)], [(0, 0)] * 2] + [[(0, 0)] * 8] * 4
     beside = [([(6, 0), (7, k // 512), (8, k // 64 % 8), (9, k // 8 % 8), (10, k % 8)], 1) for k in range(rows)]
     return fields.sheet(places, single_costs(rng, core) + beside)
@@ -100,8 +122,9 @@ def leaving_out(variable, count):
 
 def write_sheets(folder):
     folder.mkdir(parents=True, exist_ok=True)
-    for field in FIELDS:
-        (folder / (field.name + ".sheet")).write_bytes(fields.as_bytes(sheet_of(field)))
+    sheets = {field.name: sheet_of(field) for field in FIELDS} | {field.name: strip_sheet(field) for field in STRIPS}
+    for name, words in sheets.items():
+        (folder / (name + ".sheet")).write_bytes(fields.as_bytes(words))
 
 
 if __name__ == "__main__":

@@ -37,11 +37,16 @@ def proved_library():
     return archive if archive.exists() else None
 
 
-def build_driver(library):
+def build_plain():
+    """Builds the plain implementation; the options with which a program takes it."""
     subprocess.run([BENCH / "plain" / "build"], check=True)
-    plain = ["--extern", f"plain={ROOT / 'target' / 'plain' / 'libplain.rlib'}"]
+    return ["--extern", f"plain={ROOT / 'target' / 'plain' / 'libplain.rlib'}"]
+
+
+def build_driver(library):
+    options = build_plain() + (["--cfg", "proved", *linked(library)] if library else [])
     for place, driver in zip(PLACES, DRIVERS):
-        build("driver.rs", driver, plain + (["--cfg", "proved", *linked(library)] if library else []), PLACE=str(place))
+        build("driver.rs", driver, options, PLACE=str(place))
 
 
 def linked(library):
@@ -72,11 +77,11 @@ def instructions(implementation, sheet, *more):
     return counted([DRIVERS[0], implementation, sheet, *more], f"--toggle-collect=bench_{implementation}")
 
 
-def counted(command, *options, stdin=None):
-    """Instructions of a command, as valgrind counts them; 0 where it is not installed."""
+def counted(command, *options, stdin=None, before=()):
+    """Instructions of a command, as valgrind counts them; 0 where it is not installed. What stands before is not counted."""
     if not shutil.which("valgrind"):
         return 0
-    done = subprocess.run(["valgrind", "--tool=callgrind", "--callgrind-out-file=/dev/null", *options, *command],
+    done = subprocess.run([*before, "valgrind", "--tool=callgrind", "--callgrind-out-file=/dev/null", *options, *command],
                           stdin=stdin, check=True, capture_output=True, text=True)
     return int(re.search(r"Collected : (\d+)", done.stderr).group(1))
 

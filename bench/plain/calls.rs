@@ -3,7 +3,7 @@
 
 use std::io::{self, BufRead, Write};
 
-use plain::{Outcome, Refusal, Stepped};
+use plain::{Outcome, Ran, Refusal, Stepped};
 
 /// The numbers of one line, taken from the front.
 struct Line {
@@ -52,6 +52,23 @@ impl Answer {
         Answer { numbers }
     }
 
+    fn of_run(ran: &Ran) -> Answer {
+        let (number, outcome) = match ran.outcome {
+            Outcome::Done => (0, 0),
+            Outcome::Paused => (0, 1),
+            Outcome::Refused(Refusal::BadTable) => (Refusal::BadTable.number(), 0),
+            Outcome::Refused(refusal) => (refusal.number(), 2),
+        };
+        Answer { numbers: vec![u64::from(number), outcome, ran.steps as u64, ran.bound] }
+    }
+
+    /// Of a refused call: its number, and zeros in place of so many other fields.
+    fn refused(refusal: Refusal, others: usize) -> Answer {
+        let mut numbers = vec![0; 1 + others];
+        numbers[0] = u64::from(refusal.number());
+        Answer { numbers }
+    }
+
     fn with_words(mut self, words: &[u32]) -> Answer {
         self.numbers.push(words.len() as u64);
         self.numbers.extend(words.iter().map(|&word| u64::from(word)));
@@ -90,14 +107,7 @@ fn step(line: &mut Line) -> Answer {
 fn run(line: &mut Line) -> Answer {
     let (mut table, limit, mut derivation) = (line.words(), line.number() as usize, line.words());
     let ran = plain::run(&mut table, limit, &mut derivation);
-    let (number, outcome) = match ran.outcome {
-        Outcome::Done => (0, 0),
-        Outcome::Paused => (0, 1),
-        Outcome::Refused(Refusal::BadTable) => (Refusal::BadTable.number(), 0),
-        Outcome::Refused(refusal) => (refusal.number(), 2),
-    };
-    let numbers = vec![u64::from(number), outcome, ran.steps as u64, ran.bound];
-    Answer { numbers }.with_words(&table).with_words(&derivation)
+    Answer::of_run(&ran).with_words(&table).with_words(&derivation)
 }
 
 fn plan(line: &mut Line) -> Answer {
@@ -132,6 +142,24 @@ fn cost(line: &mut Line) -> Answer {
     Answer::of(plain::cost(&instance, &assignment))
 }
 
+fn certify(line: &mut Line) -> Answer {
+    match plain::certify(&line.bytes()) {
+        Ok(certified) => Answer::of_run(&certified.ran).with_words(&certified.certificate),
+        Err(refusal) => Answer::refused(refusal, 3).with_words(&[]),
+    }
+}
+
+fn verify(line: &mut Line) -> Answer {
+    let (sheet, certificate) = (line.bytes(), line.bytes());
+    match plain::verify(&sheet, &certificate) {
+        Ok(verified) => {
+            let numbers = vec![0, verified.cost, verified.steps as u64];
+            Answer { numbers }.with_bytes(&verified.assignment)
+        }
+        Err(refusal) => Answer::refused(refusal, 2).with_bytes(&[]),
+    }
+}
+
 /// Either conversion.
 fn convert(line: &mut Line, made: fn(&[u32], &mut [u32]) -> Result<usize, Refusal>) -> Answer {
     let (source, mut target) = (line.words(), line.words());
@@ -152,6 +180,8 @@ fn answer(text: &str) -> Answer {
         "check" => check(line),
         "readout" => readout(line),
         "cost" => cost(line),
+        "certify" => certify(line),
+        "verify" => verify(line),
         "to_six" => convert(line, plain::to_six),
         "to_five" => convert(line, plain::to_five),
         _ => panic!("no such call: {}", name),

@@ -2,6 +2,7 @@
 //! comparisons. Nothing here is proved.
 
 mod assignment;
+mod certificate;
 mod checker;
 mod clause;
 mod conclusions;
@@ -23,6 +24,7 @@ mod table;
 pub mod words;
 
 pub use assignment::{complete, plan};
+pub use certificate::{certify, verify, Certified, Verified};
 pub use checker::{check, Checked};
 pub use conversion::{to_five, to_six};
 pub use encoding::encode;

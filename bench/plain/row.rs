@@ -1,7 +1,7 @@
 //! Rows of a table, as they stand in its words.
 
 use crate::clause::{Signs, EMPTY};
-use crate::words::{self, kind, payload, PAYLOAD_BITS};
+use crate::words;
 
 #[derive(Clone, Copy)]
 #[repr(C)]
@@ -27,12 +27,11 @@ impl Row {
     }
 
     pub fn weight(&self) -> u64 {
-        u64::from(payload(self.high)) << PAYLOAD_BITS | u64::from(payload(self.low))
+        words::weight_in(self.low, self.high)
     }
 
     pub fn set_weight(&mut self, weight: u64) {
-        self.low = words::word(words::WEIGHT, payload(weight as u32));
-        self.high = words::word(words::HIGH_WEIGHT, (weight >> PAYLOAD_BITS) as u32);
+        [self.low, self.high] = words::weight(weight);
     }
 
     pub fn raise(&mut self, more: u64) {
@@ -52,7 +51,7 @@ impl Row {
 
     /// Whether both words have their kinds and the weight is above 0.
     pub fn has_weight(&self) -> bool {
-        kind(self.low) == words::WEIGHT && kind(self.high) == words::HIGH_WEIGHT && self.weight() > 0
+        words::are_weight(self.low, self.high) && self.weight() > 0
     }
 }
 

@@ -30,6 +30,25 @@ pub fn payload(word: u32) -> u32 {
     word & 0x0FFF_FFFF
 }
 
+/// The words in the bytes, little-endian; up to three bytes behind them are left out.
+pub fn in_bytes(bytes: &[u8]) -> Vec<u32> {
+    bytes.chunks_exact(4).map(|four| u32::from_le_bytes([four[0], four[1], four[2], four[3]])).collect()
+}
+
+/// The two words of a weight: its low bits and its high bits.
+pub fn weight(weight: u64) -> [u32; 2] {
+    [word(WEIGHT, payload(weight as u32)), word(HIGH_WEIGHT, (weight >> PAYLOAD_BITS) as u32)]
+}
+
+pub fn weight_in(low: u32, high: u32) -> u64 {
+    u64::from(payload(high)) << PAYLOAD_BITS | u64::from(payload(low))
+}
+
+/// Whether the two words have the kinds of a weight's.
+pub fn are_weight(low: u32, high: u32) -> bool {
+    kind(low) == WEIGHT && kind(high) == HIGH_WEIGHT
+}
+
 /// A variable with one of its values.
 pub fn binding(variable: usize, value: usize) -> u32 {
     word(BINDING, (variable as u32) << 8 | value as u32)

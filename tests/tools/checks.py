@@ -6,13 +6,14 @@ import sys
 from pathlib import Path
 from unittest import mock
 
+from certificates.command import main as certificate_main
 from counted import Counted
 from sheets.command import main as sheet_main
 from tables.command import main as table_main
 
 ROOT = Path(__file__).resolve().parents[2]
-SHEET, TABLE = "sheet", "table"
-MAINS = {SHEET: sheet_main, TABLE: table_main}
+SHEET, TABLE, CERTIFICATE = "sheet", "table", "certificate"
+MAINS = {SHEET: sheet_main, TABLE: table_main, CERTIFICATE: certificate_main}
 
 
 class Checks(Counted):
@@ -25,9 +26,11 @@ class Checks(Counted):
         self.same(shown(arguments, tool), ran(arguments, source, tool), (1, b"", message + "\n"))
 
     def refuses(self, command, source, fault, tool=SHEET):
-        """The same for a fault of what is on standard input, in this process: there are too many for one each."""
+        """The same for a fault of what is on standard input, in this process: there are too many for one each. A tool that does one
+        thing alone has no word for it."""
+        arguments = [command, "-"] if command else ["-"]
         expected = 1, b"", f"standard input, {fault}\n"
-        self.same(f"{shown([command], tool)}: {fault}", called([command, "-"], source, tool), expected)
+        self.same(f"{shown(arguments, tool)}: {fault}", called(arguments, source, tool), expected)
 
 
 def shown(arguments, tool):

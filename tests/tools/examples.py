@@ -1,8 +1,9 @@
 """The examples: their words made anew, and their plans anew by the reference program; the seasons of them and their figures; a
-table of last year's and its text."""
+table of last year's and its text; certificates with their text and their verdict."""
 
-from checks import ROOT, TABLE, called
-from reference import encode, make_instance, printed_plan, run_call, season_line, to_five, to_six
+from checks import CERTIFICATE, ROOT, TABLE, called
+from reference import certified, encode, make_instance, printed_plan, run_call, season_line, to_five, to_six, verified
+from reference.certificates import request
 from reference.fields import as_bytes
 from reference.planning import words_of
 
@@ -13,6 +14,7 @@ NAMES = ["corner", "headland", "terraces"]
 FLOODED = "flooded"
 CULVERT = "culvert"
 ALL = sorted([*NAMES, FLOODED, CULVERT])
+CERTIFIED = ["corner", "headland"]
 
 # The printed plan of the small field that document 01 works out.
 CORNER_PLAN = b"PLAN\nCOST 10\nSTEPS 1\n0 0 0\n1 1 10\n"
@@ -30,6 +32,7 @@ def run(checks):
     check_season(checks)
     check_shown_season(checks)
     check_table(checks)
+    check_certificates(checks)
 
 
 def content(name):
@@ -74,3 +77,20 @@ def check_shown_season(checks):
     checks.same("all examples packed", (status, said, line.split()[8]), (0, "", "1"))
     command = "    tools/sheet season pack examples/*.txt | ./season -\n"
     checks.same("the line of all examples in the README", f"{command}\nprints\n\n    {line}" in README.read_text(), True)
+
+
+def check_certificates(checks):
+    """Made with the plans of their sheets, shown as text, and accepted with these sheets; what the README shows of the corner's."""
+    for ending in ["certificate", "steps", "verified"]:
+        checks.same(f"examples/*.{ending}", sorted(path.stem for path in EXAMPLES.glob(f"*.{ending}")), CERTIFIED)
+    for name in CERTIFIED:
+        sheet, certificate = content(f"{name}.sheet"), content(f"{name}.certificate")
+        checks.same(f"examples/{name}.certificate", (content(f"{name}.plan"), certificate), certified(sheet))
+        checks.answers([f"examples/{name}.certificate"], b"", content(f"{name}.steps"), CERTIFICATE)
+        told = content(f"{name}.verified")
+        checks.same(f"examples/{name}.verified", told, verified(request(sheet, certificate)))
+        checks.same(f"the plan in examples/{name}.verified", told.replace(b"ACCEPTED", b"PLAN"), content(f"{name}.plan"))
+    for command, ending in [("./verify examples/corner.sheet examples/corner.certificate", "verified"),
+                            ("tools/certificate examples/corner.certificate", "steps")]:
+        printed = "".join(f"    {line}\n" for line in content(f"corner.{ending}").decode().splitlines())
+        checks.same(f"what the README shows of {command}", f"    {command}\n\nprints\n\n{printed}" in README.read_text(), True)

@@ -1,7 +1,12 @@
-# Proves and builds the program of a command where that has not been done since the last change. The command sets `here`, the repository, and
-# `crate`, its program's; what it builds is marked and logged under its own name.
-program=$here/target/bin/$crate
-built=$here/target/$command.built
+# Proves and builds the program of a command where that has not been done since the last change. The command sets `here`, the repository.
+
+# Says which crate's program is used; what is built of it is marked and logged under the second name, or the command's.
+use_program() {
+    crate=$1
+    marked=${2:-$command}
+    program=$here/target/bin/$crate
+    built=$here/target/$marked.built
+}
 
 # The program is there, and no source has changed since its build began.
 current() {
@@ -37,13 +42,13 @@ progress() {
     [ ! -t 2 ] || [ "$proved" -eq 0 ] || echo >&2
 }
 
-# The toolchain gets no standard input, which may be the file that is to be planned or converted.
+# The toolchain gets no standard input, which may be the file that the program is to read.
 build() {
     command -v rt >/dev/null 2>&1 || fail "the Rattle toolchain's command rt is not installed"
     say "proving and building the program; the first time takes some minutes"
     mkdir -p "$here/target"
     touch "$built.new"
-    (cd "$here" && rt check "$crate" </dev/null) 2>&1 | tee "$here/target/$command.log" | progress "$(crate_count)" ||
-        fail "the program could not be proved and built; see target/$command.log"
+    (cd "$here" && rt check "$crate" </dev/null) 2>&1 | tee "$here/target/$marked.log" | progress "$(crate_count)" ||
+        fail "the program could not be proved and built; see target/$marked.log"
     mv "$built.new" "$built"
 }

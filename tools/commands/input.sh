@@ -1,4 +1,4 @@
-# The file that a command reads, the one argument of ./plan and ./season and the first file of ./convert, and what it holds. `usage` prints a command's help.
+# A file that a command reads, and what it holds. `usage` prints a command's help.
 
 # One byte more than a sheet's words may have; so much of a file tells its form.
 most=64001

@@ -1,1 +1,1 @@
-"""What the tools for sheets and for tables share: faults, files, commands, words, lines of text and stations."""
+"""What the tools for sheets, tables and certificates share: faults, files, commands, words, lines of text and stations."""

@@ -2,8 +2,8 @@
 
 
 class Fault(Exception):
-    """Raised at the first fault. The place is a line of a text, a word of a sheet or a table, or a sheet of a season; the reason
-    is plain words."""
+    """Raised at the first fault. The place is a line of a text, a word of a sheet, a table or a certificate, or a sheet of a season;
+    the reason is plain words."""
 
     def __init__(self, place, reason):
         super().__init__(f"{place}: {reason}")

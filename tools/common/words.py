@@ -40,7 +40,7 @@ class Reader:
 
     def __init__(self, words, holder):
         self.words = words
-        self.holder = holder    # what the words make up: a sheet, a table
+        self.holder = holder    # what the words make up: a sheet, a table, a certificate
         self.taken = 0
 
     def ended(self):

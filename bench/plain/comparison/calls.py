@@ -3,8 +3,10 @@
 from typing import NamedTuple
 
 import reference
-from reference.answers import BAD_CLAIM, BAD_TABLE, GOOD, Refused
+from reference.answers import BAD_CLAIM, BAD_TABLE, GOOD, TABLE_FULL, Refused
+from reference.certificates import request
 from reference.inputs import cost_of, in_range, read_instance
+from reference.planning import words_of
 from reference.tables import read_table
 
 ALL_NUMBERS = list(range(17))
@@ -99,3 +101,32 @@ def cost_answer(instance, assignment):
     if not in_range(read.sizes, assignment):
         return [BAD_CLAIM, 0]
     return [GOOD, cost_of(read.entries, assignment)]
+
+
+def certify(sheet):
+    """The sheet is bytes; the reference has a text with the certificate."""
+    text, certificate = reference.certified(sheet)
+    return call("certify", sliced(sheet), certified_fields(*text.decode().split()) + sliced(words_of(certificate)))
+
+
+def certified_fields(first, *others):
+    """Number, outcome, steps and bound, by the words of the text."""
+    if first == "REFUSED":
+        return [int(others[0]), 0, 0, 0]
+    if first == "PLAN":
+        return [GOOD, OUTCOMES["done"], int(others[3]), int(others[1])]
+    number, outcome = {"PAUSED": (GOOD, "paused"), "FULL": (TABLE_FULL, "refused")}[first]
+    return [number, OUTCOMES[outcome], int(others[0]), int(others[2])]
+
+
+def verify(sheet, certificate):
+    """Both are bytes; the reference answers with a text."""
+    text = reference.verified(request(sheet, certificate))
+    return call("verify", sliced(sheet) + sliced(certificate), verified_fields(*text.decode().split()))
+
+
+def verified_fields(first, *others):
+    """Number, cost, steps and assignment, by the words of the text."""
+    if first == "REFUSED":
+        return [int(others[0]), 0, 0] + sliced([])
+    return [GOOD, int(others[1]), int(others[3])] + sliced([int(value) for value in others[5::3]])

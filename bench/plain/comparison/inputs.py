@@ -4,8 +4,13 @@ import calls
 import conversions
 import reference
 from reference import fields, words
+from reference.certificates import Certificate, certificate_words
+from reference.derivations import ended_otherwise
+from reference.inputs import made_words, read_instance
 from reference.limits import FORBIDDEN_WEIGHT, MAX_COORDINATE, MAX_WEIGHT, ROW_WORDS
-from reference.tables import Row, read_table, table_words
+from reference.planning import words_of
+from reference.plans import rebuilt
+from reference.tables import Row, empty_weight, read_table, table_words
 
 ROUNDS = 60
 COSTS = [0, 0, 1, 1, 2, 3, 5, 9, 65_535, FORBIDDEN_WEIGHT]
@@ -25,7 +30,9 @@ def calls_of_round(rng):
             calls.readout(damaged(rng, sheet), *random_readout(rng, sizes)),
             calls.cost(damaged(rng, instance), random_assignment(rng, sizes)),
             calls.encode(damaged(rng, instance), filled(rng, table_length(rng, sizes, 40)))]
-    return made + table_calls(rng, sizes, instance) + heavy_calls(rng, sizes) + check_calls(rng, sizes, instance)
+    made += table_calls(rng, sizes, instance) + heavy_calls(rng, sizes) + check_calls(rng, sizes, instance)
+    # Planned to the end, which fields of twelve variables hardly ever are in short time.
+    return made + certificate_calls(rng, sheet) if len(sizes) < 12 else made
 
 
 def random_assignment(rng, sizes):
@@ -157,3 +164,21 @@ def check_calls(rng, sizes, instance):
     return [calls.check(instance, derivation, planned.target, run.bound, lent),
             calls.check(damaged(rng, instance), hurt, planned.target, run.bound, lent),
             calls.check(instance, derivation[:-1], random_assignment(rng, sizes), run.bound, lent)]
+
+
+def certificate_calls(rng, sheet):
+    """Certificates of a sheet, of a damaged one, and of one with another derivation; each with a sheet, as it is and damaged."""
+    hurt = damaged(rng, sheet)
+    made = [words_of(reference.certified(fields.as_bytes(source))[1]) for source in (sheet, hurt)] + [derived_otherwise(rng, sheet)]
+    certificates = made + [damaged(rng, source) for source in made if source]
+    sheets = [fields.as_bytes(source) for source in (sheet, hurt)]
+    return [calls.certify(source) for source in sheets] + [
+        calls.verify(source, fields.as_bytes(certificate)) for source in sheets for certificate in certificates]
+
+
+def derived_otherwise(rng, sheet):
+    """A certificate with steps that need not be the planner's."""
+    instance = made_words(sheet)
+    derivation, rows = ended_otherwise(instance, rng.choice)
+    sizes = read_instance(instance).sizes
+    return certificate_words(Certificate(rebuilt(sizes, rows), empty_weight(rows), derivation))

@@ -1,5 +1,5 @@
 -- A sheet with no variables: of all that a value can mean, the plan at the sum of the costs is left, and 15 where one forbids.
-use Prim.Native.Nat.{ℕ, _≤_, _<_}
+use Prim.Native.Nat.{ℕ, _+_, _≤_, _<_}
 use native.Mathlib.Omega.{arith}
 use mathlib.Core.Path.{_≡_, refl, sym, ap, subst, _∙_}
 use mathlib.Core.Bool.{Bool, true, false, cond}
@@ -21,7 +21,8 @@ use Rattle.entries.specs.Entries.{entriesFault, scanWord, scanCost, scanForbidd
 use Rattle.sheet.specs.Sheet.{legCount, sheetStationsFault, sheetFault, stationsFrom, positionsOf, sheetSizes}
 use Rattle.input.specs.Instance.{instanceFault, sizesOf, entriesOf}
 use Rattle.input.proofs.Acceptance.{faultlessIsAccepted}
-use Rattle.table.specs.Layout.{capacityIn, capacity}
+use Rattle.rows.specs.Raw.{rowWidth}
+use Rattle.table.specs.Layout.{rowsAt, capacityIn, capacity}
 use Rattle.littleendian.specs.Words.{wordsIn}
 use Rattle.littleendian.proofs.Writing.{length-words}
 use Rattle.making.specs.Made.{madeWords}
@@ -33,8 +34,8 @@ use Rattle.calls.specs.Calls.{Derives}
 use Rattle.calls.specs.Demand.{RunEnds, noneLeft, limitMet, noRoom}
 use Rattle.calls.proofs.Empty.{none-left, no-steps, best-empty}
 use Rattle.planning.specs.declared.Solved.{Solved}
-use Rattle.planning.specs.Solving.{bufferWords, tableBuffer, stepLimit, solvedOf}
-use Rattle.planning.specs.Theorems.{RunFrom, SheetMeans, faulty, longInstance, manyRows, noneAllowed, planned, paused, full, Means, tooLong, noWords, ofWords}
+use Rattle.planning.specs.Solving.{bufferWords, solvedOf}
+use Rattle.planning.specs.Theorems.{Room, programRoom, RunIn, SheetMeansIn, faulty, longInstance, manyRows, noneAllowed, planned, paused, full, MeansIn, tooLong, noWords, ofWords}
 use Rattle.planning.specs.Empty.{EmptySheet, EmptySolved, EmptySolves, EmptyBytes}
 use Rattle.planning.proofs.Meaning.{solvedMeans}
 
@@ -48,7 +49,9 @@ must-end cap most steps rs a b (noneLeft e) = refl
 must-end cap most steps rs a b (limitMet m pr e) = absurd (none-left rs pr e)
 must-end cap most steps rs a b (noRoom m pr e f) = absurd (none-left rs pr e)
 
-module _ (sheet : List ℕ) (short : length sheet ≤ bufferWords) (fine : sheetFault sheet ≡ 0) (empty : sheetSizes sheet ≡ []) where
+-- in a room whose table takes a row
+module _ (room : Room) (takes : rowsAt 0 + rowWidth ≤ room .table) (sheet : List ℕ) (short : length sheet ≤ room .instance) (fine : sheetFault sheet ≡ 0)
+    (empty : sheetSizes sheet ≡ []) where
   sizes-none : sizesOf (madeWords sheet) ≡ []
   sizes-none = made-accepted sheet fine .sizes ∙ empty
 
@@ -66,8 +69,8 @@ module _ (sheet : List ℕ) (short : length sheet ≤ bufferWords) (fine : sheet
   cost-all : cost (entriesOf sheet) [] ≡ allCosts (entriesOf sheet)
   cost-all = constantsAdd (entriesOf sheet) (accepted .wellFormed)
 
-  -- one row at most, and the table takes 2,666
-  few : length (encodedRows (madeWords sheet)) ≤ capacity tableBuffer (length (sheetSizes sheet))
+  -- one row at most
+  few : length (encodedRows (madeWords sheet)) ≤ capacity (room .table) (length (sheetSizes sheet))
   unfolding capacityIn
   few =
       rw (sizes-none, entries-own, empty, encodesToOne (entriesOf sheet) (accepted .wellFormed))
@@ -80,13 +83,13 @@ module _ (sheet : List ℕ) (short : length sheet ≤ bufferWords) (fine : sheet
   cheap f = omega (arith, leb-false forbiddenCost (cost (entriesOf sheet) []) (forbiddenIsDear [] 0 (entriesOf sheet) accepted [] ∙ f), cost-all)
 
   -- a run from the sheet's encoding makes no step, and is done
-  none-made : (steps b number field : ℕ) → RunFrom (madeWords sheet) steps b number field → (steps ≡ 0) × (field ≡ 0)
+  none-made : (steps b number field : ℕ) → RunIn room (madeWords sheet) steps b number field → (steps ≡ 0) × (field ≡ 0)
   none-made steps b number field r = (
     sym (r .made) ∙ ap length (no-steps (r .words) (subst (λ ds. Derives ds (encodedRows (madeWords sheet)) (r .words) (r .rows)) sizes-none (r .derived))),
-    must-end _ _ _ _ _ _ (subst (λ ds. RunEnds ds (capacity tableBuffer (length (sizesOf (madeWords sheet)))) stepLimit steps (r .rows) number field) sizes-none (r .ends)),
+    must-end _ _ _ _ _ _ (subst (λ ds. RunEnds ds (capacity (room .table) (length (sizesOf (madeWords sheet)))) (room .most) steps (r .rows) number field) sizes-none (r .ends)),
   )
 
-  solves : (s : Solved) → SheetMeans sheet s → EmptySolved (entriesOf sheet) s
+  solves : (s : Solved) → SheetMeansIn room sheet s → EmptySolved (entriesOf sheet) s
   solves _ (faulty k e low high) = absurd (omega arith)
   solves _ (longInstance e h) = absurd (omega (arith, ap length own))
   solves _ (manyRows e h m) = absurd (omega (arith, few))
@@ -104,14 +107,16 @@ module _ (sheet : List ℕ) (short : length sheet ≤ bufferWords) (fine : sheet
   solves _ (paused steps b h n r) = absurd (omega (arith, none-made steps b 0 1 r .1))
   solves _ (full steps b h n r) = absurd (omega (arith, none-made steps b 12 2 r .1))
 
-bytes-solve : (bytes : List ℕ) → EmptySheet bytes → (s : Solved) → Means bytes s → EmptySolved (entriesOf (wordsIn bytes)) s
-bytes-solve bytes e _ (tooLong h) = absurd (omega (arith, e .short))
-bytes-solve bytes e _ (noWords h n) = absurd (n (e .words))
-bytes-solve bytes e _ (ofWords s h m means) =
-    solves (wordsIn bytes) (omega (arith, length-words bytes, e .short)) (e .fine) (e .empty) s means
+-- and whose instance's buffer takes every sheet
+pub bytes-solve : (room : Room) → rowsAt 0 + rowWidth ≤ room .table → bufferWords ≤ room .instance → (bytes : List ℕ) → EmptySheet bytes
+    → (s : Solved) → MeansIn room bytes s → EmptySolved (entriesOf (wordsIn bytes)) s
+bytes-solve room takes long bytes e _ (tooLong h) = absurd (omega (arith, e .short))
+bytes-solve room takes long bytes e _ (noWords h n) = absurd (n (e .words))
+bytes-solve room takes long bytes e _ (ofWords s h m means) =
+    solves room takes (wordsIn bytes) (omega (arith, length-words bytes, e .short)) (e .fine) (e .empty) s means
 
 pub emptySolves : EmptySolves
-emptySolves bytes e = bytes-solve bytes e (solvedOf bytes) (solvedMeans bytes)
+emptySolves bytes e = bytes-solve programRoom (omega arith) (omega arith) bytes e (solvedOf bytes) (solvedMeans bytes)
 
 pub emptyBytes : EmptyBytes
 unfolding wordsIn sheetFault headIn headed sheetStationsFault legCount entriesFault scanWord scanCost scanForbidden scanClosing resume positionsOf stationsFrom sheetSizes

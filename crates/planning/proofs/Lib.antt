@@ -4,3 +4,4 @@ pub mod Best
 pub mod Meaning
 pub mod Numbers
 pub mod Empty
+pub mod Claimed

@@ -15,7 +15,7 @@ use Rattle.assignment.specs.Calls.{PlanReturned, planCall}
 use Rattle.planning.specs.declared.Ending.{Ending}
 use Rattle.planning.specs.declared.Solved.{Solved}
 use Rattle.littleendian.specs.Words.{wordsIn}
-use Rattle.planning.specs.Solving.{bufferWords, tableBuffer, stepLimit, refusedSolved, stoppedSolved, plannedSolved, finishedSolved, endedSolved, TableSolved, solveTable, solveInstance, SolveReturned, withInstance, solveCall, solvedOf}
+use Rattle.planning.specs.Solving.{bufferWords, refusedSolved, stoppedSolved, plannedSolved, finishedSolved, endedSolved, TableSolved, solveTable, solveInstance, SolveReturned, withInstance, solveCall, solveBytes}
 use Rattle.making.proofs.MakeTests.{MadeIn, making, made-in}
 
 -- ---- what a run came to
@@ -112,20 +112,20 @@ module _ (sheet target : List ℕ) (answer : Answer) (target′ : List ℕ)
 
 -- ---- bytes
 
-module _ (bytes : List ℕ) (s : Solved) where
-  pub bytes-long : 4 * bufferWords < length bytes → s ≡ refusedSolved 10 → s ≡ solvedOf bytes
-  unfolding solvedOf
-  bytes-long h e = rw (lt-ltb (4 * bufferWords) (length bytes) h) e
+module _ (bytes : List ℕ) (limit : ℕ) (instance table steps : List ℕ) (s : Solved) where
+  pub bytes-long : 4 * bufferWords < length bytes → s ≡ refusedSolved 10
+      → _≡_ {A = SolveReturned} (record { answer = s; instance = instance; table = table; steps = steps }) (solveBytes bytes limit instance table steps)
+  unfolding solveBytes
+  bytes-long h e = rw (lt-ltb (4 * bufferWords) (length bytes) h, e)
 
   module _ (h : length bytes ≤ 4 * bufferWords) where
-    pub bytes-odd : (length bytes % 4 ≡ 0 → ⊥) → s ≡ refusedSolved 1 → s ≡ solvedOf bytes
-    unfolding solvedOf
-    bytes-odd n e = rw (le-ltb (4 * bufferWords) (length bytes) h, ne-eqb (length bytes % 4) 0 n) e
+    pub bytes-odd : (length bytes % 4 ≡ 0 → ⊥) → s ≡ refusedSolved 1
+        → _≡_ {A = SolveReturned} (record { answer = s; instance = instance; table = table; steps = steps }) (solveBytes bytes limit instance table steps)
+    unfolding solveBytes
+    bytes-odd n e = rw (le-ltb (4 * bufferWords) (length bytes) h, ne-eqb (length bytes % 4) 0 n, e)
 
-    pub bytes-read : (words instance table steps : List ℕ) → length bytes % 4 ≡ 0 → words ≡ wordsIn bytes
-        → _≡_ {A = SolveReturned} (record { answer = s; instance = instance; table = table; steps = steps })
-        (solveCall words stepLimit (replicate bufferWords 0) (replicate tableBuffer 0) (replicate bufferWords 0))
-        → s ≡ solvedOf bytes
-    unfolding solvedOf
-    bytes-read words instance table steps z e f =
-        rw (le-ltb (4 * bufferWords) (length bytes) h, eq-eqb (length bytes % 4) 0 z, ← e) (ap (λ (r : SolveReturned). r .answer) f)
+    pub bytes-read : (words instance′ table′ steps′ : List ℕ) → length bytes % 4 ≡ 0 → words ≡ wordsIn bytes
+        → _≡_ {A = SolveReturned} (record { answer = s; instance = instance′; table = table′; steps = steps′ }) (solveCall words limit instance table steps)
+        → _≡_ {A = SolveReturned} (record { answer = s; instance = instance′; table = table′; steps = steps′ }) (solveBytes bytes limit instance table steps)
+    unfolding solveBytes
+    bytes-read words instance′ table′ steps′ z e f = rw (le-ltb (4 * bufferWords) (length bytes) h, eq-eqb (length bytes % 4) 0 z, ← e) f

@@ -14,7 +14,7 @@ use Rattle.planning.specs.declared.Ending.{Ending}
 use Rattle.planning.specs.declared.Solved.{Solved}
 use Rattle.littleendian.specs.Words.{wordsIn}
 
--- the program's buffers in words, one of bufferWords for each of sheet, instance and steps; the limit of its run
+-- the program's buffers in words, one of bufferWords for each of sheet, instance and steps; the limit of its run. A sheet has no more words in any program
 abbrev pub bufferWords : ℕ
 bufferWords = 16000
 
@@ -101,12 +101,13 @@ solveCall sheet limit instance table steps =
 
 -- ---- bytes
 
--- a sheet's words in the program's buffers, which are all zero
-abbrev pub sheetSolved : List ℕ → Solved
-sheetSolved sheet = solveCall sheet stepLimit (replicate bufferWords 0) (replicate tableBuffer 0) (replicate bufferWords 0) .answer
+-- a sheet's bytes planned in lent buffers: over 64,000 is 10, else a length not a multiple of four is 1, and the buffers stay
+unfoldable pub solveBytes : List ℕ → ℕ → List ℕ → List ℕ → List ℕ → SolveReturned
+solveBytes bytes limit instance table steps =
+    let unread : ℕ → SolveReturned = λ k. record { answer = refusedSolved k; instance = instance; table = table; steps = steps } in
+    cond (ltb (4 * bufferWords) (length bytes)) (unread 10)
+    (cond (eqb (length bytes % 4) 0) (solveCall (wordsIn bytes) limit instance table steps) (unread 1))
 
--- over 64,000 bytes is 10; else a length not a multiple of four is 1
-unfoldable pub solvedOf : List ℕ → Solved
-solvedOf bytes =
-    cond (ltb (4 * bufferWords) (length bytes)) (refusedSolved 10)
-    (cond (eqb (length bytes % 4) 0) (sheetSolved (wordsIn bytes)) (refusedSolved 1))
+-- in the program's buffers, which are all zero
+abbrev pub solvedOf : List ℕ → Solved
+solvedOf bytes = solveBytes bytes stepLimit (replicate bufferWords 0) (replicate tableBuffer 0) (replicate bufferWords 0) .answer

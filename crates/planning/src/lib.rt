@@ -1,6 +1,6 @@
 // A sheet planned: the value that it comes to, in lent buffers of any length, and for bytes in the program's own.
 ghost use mathlib.Core.Path.{_≡_};
-ghost use Rattle.planning.specs.Solving.{refusedSolved, stoppedSolved, finishedSolved, endedSolved, solveTable, solveInstance, solveCall, solvedOf};
+ghost use Rattle.planning.specs.Solving.{refusedSolved, stoppedSolved, finishedSolved, endedSolved, solveTable, solveInstance, solveCall, solveBytes, solvedOf};
 use fields::MAX_VARIABLES;
 use littleendian::read_words;
 use resolution::Outcome;
@@ -123,9 +123,15 @@ pub fn solve_in(
     solve_instance(&instance[..long], limit, table, steps)
 }
 
-// A sheet's bytes planned in buffers of the program's own. The length is judged before a word is read.
-pub fn solve(bytes: &[u8]) -> Solved
-    ensures returned { λ r. ⌜ r ≡ solvedOf (now (bytes .entry)) ⌝ }
+// A sheet's bytes planned in lent buffers. The length is judged before a word is read.
+pub fn solve_bytes(
+    bytes: &[u8],
+    limit: usize,
+    instance: &mut [u32],
+    table: &mut [u32],
+    steps: &mut [u32],
+) -> Solved
+    ensures returned { λ r. ⌜ record { answer = r; instance = now (instance .exit); table = now (table .exit); steps = now (steps .exit) } ≡ solveBytes (now (bytes .entry)) limit (now (instance .entry)) (now (table .entry)) (now (steps .entry)) ⌝ }
 {
     if 4 * BUFFER_WORDS < bytes.len() {
         return refused(10);
@@ -134,15 +140,16 @@ pub fn solve(bytes: &[u8]) -> Solved
         return refused(1);
     }
     let mut sheet = [0u32; BUFFER_WORDS];
+    let n = read_words(bytes, &mut sheet);
+    solve_in(&sheet[..n], limit, instance, table, steps)
+}
+
+// A sheet's bytes planned in buffers of the program's own.
+pub fn solve(bytes: &[u8]) -> Solved
+    ensures returned { λ r. ⌜ r ≡ solvedOf (now (bytes .entry)) ⌝ }
+{
     let mut instance = [0u32; BUFFER_WORDS];
     let mut table = [0u32; TABLE_BUFFER];
     let mut steps = [0u32; BUFFER_WORDS];
-    let n = read_words(bytes, &mut sheet);
-    solve_in(
-        &sheet[..n],
-        STEP_LIMIT,
-        &mut instance,
-        &mut table,
-        &mut steps,
-    )
+    solve_bytes(bytes, STEP_LIMIT, &mut instance, &mut table, &mut steps)
 }

@@ -10,7 +10,8 @@ use Rattle.text.specs.Text.{digitsIn, line, planHead}
 use Rattle.littleendian.specs.Words.{wordsIn}
 use Rattle.planning.specs.Empty.{constantBytes, forbiddenBytes}
 use Rattle.planning.proofs.Empty.{emptySolves, emptyBytes}
-use Rattle.printing.specs.Printed.{variableLines, endingText, solvedText}
+use Rattle.listing.specs.Listed.{variableLines}
+use Rattle.printing.specs.Printed.{endingText, solvedText}
 use Rattle.printing.specs.Empty.{EmptyPrints, EmptyTexts}
 
 pub emptyPrints : EmptyPrints

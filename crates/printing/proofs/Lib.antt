@@ -1,7 +1,5 @@
 -- The text's laws.
 pub mod Meaning
 pub mod Empty
-mod Plans
-mod Metres
-mod Lines
-mod Texts
+pub mod Plans
+pub mod Texts

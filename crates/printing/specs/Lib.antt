@@ -1,5 +1,5 @@
 -- The text of a planned sheet.
 pub mod Printed
-pub mod Plans
+pub mod Listable
 pub mod Theorems
 pub mod Empty

@@ -13,7 +13,7 @@ digitsIn (suc k) n = cond (ltb n 10) ((48 + n) ∷ []) (digitsIn k (n / 10) ++ (
 abbrev pub decimal : ℕ → List ℕ
 decimal n = digitsIn 20 n
 
--- the fixed words: PLAN, COST, STEPS, REFUSED, PAUSED, FULL, BOUND
+-- the fixed words: PLAN, COST, STEPS, REFUSED, PAUSED, FULL, BOUND, and ACCEPTED of a verified certificate
 abbrev pub textPlan : List ℕ
 textPlan = 80 ∷ 76 ∷ 65 ∷ 78 ∷ []
 
@@ -35,6 +35,9 @@ textFull = 70 ∷ 85 ∷ 76 ∷ 76 ∷ []
 abbrev pub textBound : List ℕ
 textBound = 66 ∷ 79 ∷ 85 ∷ 78 ∷ 68 ∷ []
 
+abbrev pub textAccepted : List ℕ
+textAccepted = 65 ∷ 67 ∷ 67 ∷ 69 ∷ 80 ∷ 84 ∷ 69 ∷ 68 ∷ []
+
 -- the words of a line, a space between two and a line end (byte 10) behind the last
 unfoldable pub line : List (List ℕ) → List ℕ
 line [] = 10 ∷ []
@@ -52,9 +55,16 @@ pausedLine steps bound = line (textPaused ∷ decimal steps ∷ textBound ∷ de
 abbrev pub fullLine : ℕ → ℕ → List ℕ
 fullLine steps bound = line (textFull ∷ decimal steps ∷ textBound ∷ decimal bound ∷ [])
 
--- PLAN, COST c, STEPS k
+-- COST c, STEPS k
+abbrev pub costLines : ℕ → ℕ → List ℕ
+costLines cost steps = line (textCost ∷ decimal cost ∷ []) ++ line (textSteps ∷ decimal steps ∷ [])
+
+-- PLAN, COST c, STEPS k; ACCEPTED, COST c, STEPS k
 abbrev pub planHead : ℕ → ℕ → List ℕ
-planHead cost steps = line (textPlan ∷ []) ++ (line (textCost ∷ decimal cost ∷ []) ++ line (textSteps ∷ decimal steps ∷ []))
+planHead cost steps = line (textPlan ∷ []) ++ costLines cost steps
+
+abbrev pub acceptedHead : ℕ → ℕ → List ℕ
+acceptedHead cost steps = line (textAccepted ∷ []) ++ costLines cost steps
 
 -- three numbers
 abbrev pub threeLine : ℕ → ℕ → ℕ → List ℕ

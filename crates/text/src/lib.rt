@@ -2,7 +2,7 @@
 ghost use mathlib.Core.List.{[], _∷_};
 ghost use Prim.Native.Nat.{_+_, _≤_};
 ghost use lib.ListN.{length};
-ghost use Rattle.text.specs.Text.{decimal, textBound, line, refusedLine, pausedLine, fullLine, planHead, threeLine, variableLine};
+ghost use Rattle.text.specs.Text.{decimal, textBound, line, refusedLine, pausedLine, fullLine, costLines, planHead, acceptedHead, threeLine, variableLine};
 ghost use Rattle.text.specs.Putting.{Put};
 
 // Bytes as they are.
@@ -72,17 +72,34 @@ pub fn put_full(out: &mut [u8], at: usize, steps: usize, bound: u64) -> usize
     put_stopped(out, head, steps, bound)
 }
 
+// COST c, STEPS k.
+fn put_cost(out: &mut [u8], at: usize, cost: u64, steps: usize) -> usize
+    requires { ⌜ at + 53 ≤ length (now out) ⌝ }
+    ensures { λ r. ⌜ Put (now (out .entry)) at (costLines cost steps) (now (out .exit)) r × (r ≤ at + 53) ⌝ }
+{
+    let word = put(out, at, b"COST ");
+    let costed = put_number(out, word, cost);
+    let next = put(out, costed, b"\nSTEPS ");
+    let end = put_number(out, next, steps as u64);
+    put(out, end, b"\n")
+}
+
 // PLAN, COST c, STEPS k.
 pub fn put_plan_head(out: &mut [u8], at: usize, cost: u64, steps: usize) -> usize
     requires { ⌜ at + 64 ≤ length (now out) ⌝ }
     ensures { λ r. ⌜ Put (now (out .entry)) at (planHead cost steps) (now (out .exit)) r × (r ≤ at + 64) ⌝ }
 {
-    let plan = put(out, at, b"PLAN\n");
-    let word = put(out, plan, b"COST ");
-    let costed = put_number(out, word, cost);
-    let next = put(out, costed, b"\nSTEPS ");
-    let end = put_number(out, next, steps as u64);
-    put(out, end, b"\n")
+    let first = put(out, at, b"PLAN\n");
+    put_cost(out, first, cost, steps)
+}
+
+// ACCEPTED, COST c, STEPS k.
+pub fn put_accepted_head(out: &mut [u8], at: usize, cost: u64, steps: usize) -> usize
+    requires { ⌜ at + 64 ≤ length (now out) ⌝ }
+    ensures { λ r. ⌜ Put (now (out .entry)) at (acceptedHead cost steps) (now (out .exit)) r × (r ≤ at + 64) ⌝ }
+{
+    let first = put(out, at, b"ACCEPTED\n");
+    put_cost(out, first, cost, steps)
 }
 
 // A line of three numbers.

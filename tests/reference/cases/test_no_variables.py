@@ -208,8 +208,8 @@ class Printed(unittest.TestCase):
 
     def test_no_bytes(self):
         self.assertEqual(printed_plan(b""), b"PLAN\nCOST 0\nSTEPS 0\n")
-        self.assertEqual(solved(b""), ("planned", 0, 0, 0, [0] * 12))
-        self.assertEqual(solved(as_bytes(COSTS)), ("planned", 0, 0, 65_541, [0] * 12))
+        self.assertEqual(solved(b""), ("planned", 0, 0, 0, [0] * 12, []))
+        self.assertEqual(solved(as_bytes(COSTS)), ("planned", 0, 0, 65_541, [0] * 12, []))
 
     def test_less_than_a_word(self):
         for source in [b"\0", b"\n", b"\x10", b"\0\0", b"\0\0\x10", b"abc"]:

@@ -4,6 +4,7 @@ A public call takes lists of words or bytes and changes none of them: its answer
 lent slice beside the returned fields.
 """
 
+from .certificates import certified, verified
 from .checker import check_call
 from .conversions import to_five, to_six
 from .derivations import most_rows
@@ -16,5 +17,5 @@ from .season import season_line
 from .steps import run_call, step_call
 from .tables import encode
 
-__all__ = ["Buffers", "check_call", "complete_call", "encode", "make_instance", "most_rows", "plan_call", "printed_plan",
-           "readout_call", "run_call", "season_line", "solved", "step_call", "to_five", "to_six"]
+__all__ = ["Buffers", "certified", "check_call", "complete_call", "encode", "make_instance", "most_rows", "plan_call",
+           "printed_plan", "readout_call", "run_call", "season_line", "solved", "step_call", "to_five", "to_six", "verified"]

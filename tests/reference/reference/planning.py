@@ -2,7 +2,7 @@
 
 from typing import NamedTuple
 
-from .answers import BAD_HEAD, GOOD, TABLE_FULL, TARGET_TOO_SHORT
+from .answers import BAD_HEAD, GOOD, TABLE_FULL, TARGET_TOO_SHORT, Refused, require
 from .inputs import make_instance
 from .limits import MAX_VARIABLES
 from .plans import plan_call
@@ -30,21 +30,26 @@ class Solved(NamedTuple):
     steps: int
     bound: int          # the plan's cost, where there is a plan
     assignment: list    # the plan with zeros behind it, where there is one
+    derivation: list    # the words of the steps, where there is a plan
 
 
 def solved(source, buffers=Buffers()):
-    """What planning the sheet in these bytes came to. The length is judged before a word is read."""
-    if len(source) > WORD_BYTES * buffers.sheet:
-        return refused(TARGET_TOO_SHORT)
-    if len(source) % WORD_BYTES:
-        return refused(BAD_HEAD)
-    made = make_instance(words_of(source), [0] * buffers.instance)
-    if made.number != GOOD:
-        return refused(made.number)
-    encoding = encode(made.target[:made.written], [0] * buffers.table)
-    if encoding.number != GOOD:
-        return refused(encoding.number)
+    """What planning the sheet in these bytes came to."""
+    try:
+        encoding = encode(instance_from(source, buffers), [0] * buffers.table)
+        require(encoding.number == GOOD, encoding.number)
+    except Refused as refusal:
+        return refused(refusal.number)
     return ended(run_call(encoding.table, buffers.limit, [0] * buffers.steps))
+
+
+def instance_from(source, buffers):
+    """The words of the instance made from a sheet's bytes, or its refusal. The length is judged before a word is read."""
+    require(len(source) <= WORD_BYTES * buffers.sheet, TARGET_TOO_SHORT)
+    require(len(source) % WORD_BYTES == 0, BAD_HEAD)
+    made = make_instance(words_of(source), [0] * buffers.instance)
+    require(made.number == GOOD, made.number)
+    return made.target[:made.written]
 
 
 def words_of(source):
@@ -52,7 +57,7 @@ def words_of(source):
 
 
 def refused(number):
-    return Solved(REFUSED, number, 0, 0, [])
+    return Solved(REFUSED, number, 0, 0, [], [])
 
 
 def ended(ran):
@@ -60,9 +65,9 @@ def ended(ran):
     if ran.outcome == DONE:
         return planned(ran, plan_call(ran.table, [0] * MAX_VARIABLES))
     if ran.outcome == PAUSED:
-        return Solved(PAUSED, GOOD, ran.steps, ran.bound, [])
+        return Solved(PAUSED, GOOD, ran.steps, ran.bound, [], [])
     if ran.number == TABLE_FULL:
-        return Solved(FULL, GOOD, ran.steps, ran.bound, [])
+        return Solved(FULL, GOOD, ran.steps, ran.bound, [], [])
     return refused(ran.number)
 
 
@@ -70,4 +75,4 @@ def planned(ran, plan):
     """What a run to the end and the plan call behind it came to."""
     if plan.number != GOOD:
         return refused(plan.number)
-    return Solved(PLANNED, GOOD, ran.steps, ran.bound, plan.target)
+    return Solved(PLANNED, GOOD, ran.steps, ran.bound, plan.target, ran.derivation[:ran.steps])

@@ -1,44 +1,12 @@
--- `solve` refuses a length that is none of a sheet, or answers what the words read come to in its own buffers, all zero.
-use native.Mathlib.Omega.{arith}
-use mathlib.Core.Path.{sym}
-use lib.Seq.{length-take-le}
-use denote.Ref.{now}
+-- `solve` answers what its bytes come to in its own buffers, all zero.
+use mathlib.Core.Path.{ap}
 use borrow.Author.Needs.{needs}
-use Rattle.planning.proofs.Solving.{bytes-long, bytes-odd, bytes-read}
+use Rattle.planning.specs.Solving.{SolveReturned}
 use Rattle.planning.proofs.solve.Statement.{statement}
 use Rattle.planning.proofs.solve.Tie as tie
 
 returns : tie.Need-returns
-returns c = bytes-long _ _ (c .before .if1 .taken) (c .refused .ensures)
-
-returns-2 : tie.Need-returns-2
-returns-2 c = bytes-odd _ _ (c .before .before .if1 .left) (c .before .if2 .taken) (c .refused2 .ensures)
-
-slice-aggregate-solve-in : tie.Need-slice-aggregate-solve-in
-slice-aggregate-solve-in c = sym (length-take-le _ _ (omega (arith, c .before .before .read-words .kept .1 .0)))
-
-returns-3 : tie.Need-returns-3
-returns-3 c =
-    let w = c .before .before .before .before .before .before .before .before .before in
-    let b = w .before .before in
-    bytes-read (now (b .before .before .before .args .bytes)) _ (b .before .if1 .left) _ _ _ _ (b .if2 .left) (w .read-words .ensures .0)
-    (c .before .before .before .solve-in .ensures)
+returns c = ap (λ (r : SolveReturned). r .answer) (c .before .before .before .solve-bytes .ensures)
 
 pub solve-spec : {M : Type 1} → statement M
-solve-spec =
-    tie.close
-    (tie.spec
-    (λ c. search needs)
-    (λ c κs. search needs)
-    returns
-    (λ c κs. search needs)
-    returns-2
-    (λ c. search needs)
-    (λ c κs. search needs)
-    (λ c. search needs)
-    slice-aggregate-solve-in
-    (λ c. search needs)
-    (λ c. search needs)
-    (λ c. search needs)
-    (λ c κs. search needs)
-    returns-3)
+solve-spec = tie.close (tie.spec (λ c. search needs) (λ c. search needs) (λ c. search needs) (λ c κs. search needs) returns)

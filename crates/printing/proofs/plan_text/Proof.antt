@@ -1,13 +1,13 @@
 -- `plan_text` puts the text of the value of its bytes into a buffer, all zero, and hands it back with the length put there.
 use native.Mathlib.Omega.{arith}
 use borrow.Author.Needs.{needs}
-use Rattle.planning.proofs.Meaning.{solvedMeans}
+use Rattle.printing.proofs.Plans.{solved-listable}
 use Rattle.printing.proofs.Texts.{printed-put}
 use Rattle.printing.proofs.plan_text.Statement.{statement}
 use Rattle.printing.proofs.plan_text.Tie as tie
 
 put-solved-requires : tie.Need-put-solved-requires
-put-solved-requires c κs = (rw (c .before .solve .ensures) (solvedMeans _), omega arith)
+put-solved-requires c κs = (solved-listable _ _ (c .before .solve .ensures), omega arith)
 
 returns : tie.Need-returns
 returns c =

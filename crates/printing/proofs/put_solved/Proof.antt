@@ -3,7 +3,6 @@ use native.Mathlib.Omega.{arith}
 use denote.Ref.{now}
 use borrow.Author.Needs.{needs}
 use Rattle.printing.specs.Printed.{endingText}
-use Rattle.printing.proofs.Plans.{means-holds}
 use Rattle.printing.proofs.Texts.{ending-put}
 use Rattle.printing.proofs.put_solved.Statement.{statement}
 use Rattle.printing.proofs.put_solved.Tie as tie
@@ -11,7 +10,7 @@ use Rattle.printing.proofs.put_solved.Tie as tie
 put-planned-requires : tie.Need-put-planned-requires
 put-planned-requires c κs =
     let p = c .before .before .before .before .before .before .before .pre in
-    let h = means-holds _ _ (c .before .before .enum-told .given .1) (p .0) in
+    let h = p .0 (c .before .before .enum-told .given .1) in
     (h .0, (h .1, p .1))
 
 returns : tie.Need-returns

@@ -1,29 +1,17 @@
--- `put_plan_head` meets its contract: the words, the two numbers and the line end, each put behind the last.
+-- `put_plan_head` meets its contract: the word, then cost and steps.
 use borrow.Author.Needs.{needs}
-use Prim.Native.Nat.{ℕ}
-use mathlib.Core.Path.{_≡_, ap}
-use mathlib.Core.List.{List, [], _∷_, _++_, append-assoc}
 use native.Mathlib.Omega.{arith}
-use Rattle.text.specs.Text.{line, decimal, textPlan, textCost, textSteps, planHead}
-use Rattle.text.proofs.Putting.{put-put, put-same}
+use Rattle.text.specs.Text.{line}
+use Rattle.text.proofs.Putting.{put-put}
 use Rattle.text.proofs.put_plan_head.Statement.{statement}
 use Rattle.text.proofs.put_plan_head.Tie as tie
-
--- the line end behind the cost is put with the word behind it
-plan-head : (cost steps : ℕ) → planHead cost steps ≡ textPlan ++ (10 ∷ (textCost ++ (32 ∷ (decimal cost ++ (10 ∷ (textSteps ++ (32 ∷ (decimal steps ++ (10 ∷ [])))))))))
-unfolding line
-plan-head cost steps = ap (λ (l : List ℕ). textPlan ++ (10 ∷ (textCost ++ (32 ∷ l)))) (append-assoc (decimal cost) (10 ∷ []) (textSteps ++ (32 ∷ (decimal steps ++ (10 ∷ [])))))
 
 returns : tie.Need-returns
 unfolding line
 returns c =
-    let end = c .before .before in
-    let steps = end .before .before .before .before .before in
-    let next = steps .before .before .before .before in
-    let cost = next .before .before .before .before .before in
-    let word = cost .before .before .before .before in
-    let plan = word .before .before .before .before .before in
-    (put-same _ _ _ _ _ _ (plan-head _ _) (put-put _ _ _ _ _ _ _ _ (plan .put .ensures) (put-put _ _ _ _ _ _ _ _ (word .put2 .ensures) (put-put _ _ _ _ _ _ _ _ (cost .put-number .ensures .0) (put-put _ _ _ _ _ _ _ _ (next .put3 .ensures) (put-put _ _ _ _ _ _ _ _ (steps .put-number2 .ensures .0) (end .put4 .ensures)))))), omega arith)
+    let tail = c .before .before in
+    let head = tail .before .before .before .before in
+    (put-put _ _ _ _ _ _ _ _ (head .put .ensures) (tail .put-cost .ensures .0), omega arith)
 
 pub put-plan-head-spec : {M : Type 1} → statement M
-put-plan-head-spec = tie.close (tie.spec (λ c. search needs) (λ c κs. search needs) (λ c. search needs) (λ c κs. search needs) (λ c κs. search needs) (λ c. search needs) (λ c κs. search needs) (λ c κs. search needs) (λ c. search needs) (λ c κs. search needs) (λ c. search needs) returns)
+put-plan-head-spec = tie.close (tie.spec (λ c. search needs) (λ c κs. search needs) (λ c κs. search needs) (λ c. search needs) returns)

@@ -1,0 +1,4 @@
+-- The laws of the lines.
+pub mod Plans
+mod Metres
+mod Lines
