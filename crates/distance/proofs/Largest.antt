@@ -8,6 +8,7 @@ use mathlib.Core.Bool.{Bool, true, false}
 use mathlib.Core.Logic.{inl, inr, ⊎_elim}
 use lib.Dec.{leb}
 use borrow.Author.Tests.{leb-true, leb-false}
+use Rattle.distance.proofs.Estimates.{no_metre}
 use Rattle.distance.specs.Metres.{half_beyond, largest_up_to, metres, HalfReached, Nearest, MetresAreNearest, max_offset, max_metres, difference, metres_between}
 
 half_beyond_lem : (m : ℕ) → half_beyond m ≡ 2500 * ((2 * m + 1) * (2 * m + 1))
@@ -63,6 +64,10 @@ metres_are_nearest =
       holds = is_nearest;
       unique = λ q m l. omega (arith, no_larger q m (metres q) (omega (arith, l)) (is_nearest q).not_before, no_larger q (metres q) m (not-next q) l.not_before);
     }
+
+-- less than half a metre is no metre: what `root` answers without an estimate
+pub none_metres : (q n : ℕ) → n ≡ q / 2500 → n ≡ 0 → (0 ≡ metres q) × Nearest q 0
+none_metres q n e z = let l = no_metre q (omega arith) in (metres_are_nearest.unique q 0 l, l)
 
 -- ---- how far two points of the field can lie apart
 

@@ -1,9 +1,12 @@
 // The nearest whole metre between two points: the integer root, by falling estimates.
+#![tactic(auto)]
+
 ghost use Rattle.std.specs.Prelude.{◌≡◌, ◌≤◌, ◌*◌, ◌+◌, ◌<◌};
 ghost use Rattle.distance.specs.Metres.{metres, Nearest, max_offset, max_metres, difference, squared_distance, metres_between};
 
 // The nearest whole metre of a squared distance in square centimetres. The estimates count half metres: each is at least the root, and the first
 // that does not fall is the root. Half of the next number, rounded down, is the nearest metre.
+#[tactic(auto, using(crate::proofs::Largest::none_metres))]
 pub fn root(q: u64) -> u64
     ensures { (result ≡ metres q) × Nearest q result }
 {

@@ -1,5 +1,7 @@
 // What the crates above share on a field: its limits, its sizes' words in front of a slice, a word's cost, assignments, the answer of a call, a
 // copy of bytes, and two small functions on numbers.
+#![tactic(auto)]
+
 ghost use Rattle.std.specs.Prelude.{◌≡◌, ◌+◌, ◌<◌, ◌≤◌, min, length, take};
 ghost use Rattle.std.proofs.lemmas.List.Edits.{sets};
 ghost use Rattle.std.proofs.Math.Seq.{paste};
@@ -23,7 +25,7 @@ pub const MAX_COST: u32 = 65535;
 pub const FORBIDDEN_COST: u32 = 268431361;
 
 // A number, 0 for success, and a value, 0 where refused.
-#[derive(Drop)]
+#[derive(Clone, Copy)]
 pub struct Answer {
     pub number: u32,
     pub value: u64,

@@ -199,7 +199,7 @@ pub adding_single : (ds : List ℕ) (u : ℕ) {rs : List Row} {cs : List (List �
 unfolding add_all add fresh
 adding_single ds u {rs} t nil_distinct nil_each = rw (append-nil, raised-nil)
 adding_single ds u {rs} t (cons_distinct {c = c} {cs = cs} a d) (cons_each e es) =
-    rw e (adding_single ds u (single_merge u c t) d es
+    rw e (adding_single ds u {rs = merge u rs c} (single_merge u c t) d es
     ∙ rw (fresh-merge u u rs c a, raised-merge u c cs (apart_member a) t, append_assoc) (ap (λ l. raised u (c ∷ cs) rs ++ l) (behind (has_row c rs))))
   where
     behind : (b : Bool) → cond b [] (row_of c u ∷ []) ++ fresh u cs rs ≡ cond b (fresh u cs rs) (row_of c u ∷ fresh u cs rs)

@@ -14,6 +14,7 @@ use Rattle.wcsp.specs.Bound.{total}
 use Rattle.wcsp.specs.Empty.{all_costs, OneAssignment, ConstantsAdd, LeastIsSum, EncodesToOne, NothingToResolve}
 
 in_range_none : (p : List ℕ) → InRange [] p → p ≡ []
+in_range_none (_ ∷ _) x3 = elim x3 [ ]
 in_range_none [] nil = refl
 
 none_in_range : (p : List ℕ) → p ≡ [] → InRange [] p

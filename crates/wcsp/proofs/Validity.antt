@@ -121,7 +121,7 @@ valid_add {ds} u {rs} c p b t = go (tautology ds c) refl
 pub valid_add_all : {ds : List ℕ} (u : ℕ) {rs : List Row} {cs : List (List ℕ)} → 0 < u → Each (Bounded ds) cs → ValidRows ds rs → ValidRows ds (add_all ds u rs cs)
 unfolding add_all
 valid_add_all u p nil_each t = t
-valid_add_all u p (cons_each {c = c} b bs) t = valid_add_all u p bs (valid_add u c p b t)
+valid_add_all {ds = ds} u {rs = rs} p (cons_each {c = c} b bs) t = valid_add_all u {rs = add ds u rs c} p bs (valid_add u c p b t)
 
 absent_lessen : {a : List ℕ} (u i : ℕ) {rs : List Row} → Absent a rs → Absent a (lessen u i rs)
 unfolding lessen

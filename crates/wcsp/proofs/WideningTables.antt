@@ -35,6 +35,9 @@ along_narrow k (d ∷ ds) (S ∷ c) (cons r a) = cons r (along_narrow k ds c a)
 -- where a variable of one value leaves 0 alone, the rest is zeros
 along_takes : {R : ℕ → ℕ → Type 0} (k : ℕ) (ds q : List ℕ) → ((v : ℕ) → R 1 v → v ≡ 0) → Along R (widened k ds) q
     → q ≡ wide k (take (length ds) q)
+along_takes {R = R} zero [] (v ∷ q) only x6 = elim x6 [ ]
+along_takes {R = R} (suc k) [] [] only x6 = elim x6 [ ]
+along_takes {R = R} k (d ∷ ds) [] only x4 = elim x4 [ ]
 along_takes zero [] [] only nil = refl
 along_takes (suc k) [] (v ∷ q) only (cons r a) = ap₂ (λ b c. b ∷ c) (only v r) (along_takes k [] q only a)
 along_takes k (d ∷ ds) (v ∷ q) only (cons r a) = ap (λ c. v ∷ c) (along_takes k ds q only a)

@@ -1,5 +1,5 @@
 -- A word that is read as a kind with its fields has that kind's number and those fields, and is the word made from them. What a kind and payload say is put into one view, whose cases give kind and payload back.
-use Prim.Native.Nat.{ℕ, zero, suc, ◌+◌, ◌-◌, ◌*◌, ◌/◌, ◌%◌, ◌<◌}
+use Prim.Native.Nat.{ℕ, zero, suc, ◌+◌, ◌*◌, ◌/◌, ◌%◌, ◌<◌}
 use native.Mathlib.Omega.{arith}
 use mathlib.Core.Path.{◌≡◌, refl}
 use Rattle.words.specs.declared.Word.{Word}

@@ -1,5 +1,5 @@
 -- Reading what was made gives it back: a word of a known kind and payload is read as that kind's payload, once for every kind, and each word's fields come back from its payload.
-use Prim.Native.Nat.{ℕ, ◌+◌, ◌-◌, ◌*◌, ◌/◌, ◌%◌, ◌<◌}
+use Prim.Native.Nat.{ℕ, ◌+◌, ◌*◌, ◌/◌, ◌%◌, ◌<◌}
 use native.Mathlib.Omega.{arith}
 use mathlib.Core.Path.{◌≡◌, sym, ap₂}
 use lib.Arith.{digits_div, digits_mod}

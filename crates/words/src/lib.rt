@@ -1,10 +1,12 @@
 // The words of document 01 and of wish 4 of document 02: what a word says by its kind, the words that the planner writes, and three signs in one word.
+#![tactic(auto)]
+
 ghost use Rattle.std.specs.Prelude.{◌≡◌, ◌+◌, ◌*◌, ◌<◌, ◌≤◌, ◌/◌, ◌%◌};
 ghost use Rattle.words.specs.Layout.{kind_of, payload_of, head_word, size_word, binding_word, cost_word, packed, signs_word, weight_word, step_word, coordinate_payload, easting_word, northing_word, count_word, high_word};
 ghost use Rattle.words.specs.Meaning.{word_of, coordinate_of};
 
 // A word by its kind, with its fields. A payload with a set unnamed bit has a field out of range.
-#[derive(Drop)]
+#[derive(Clone, Copy)]
 pub enum Word {
     Head(u32),
     Size(u32),
@@ -22,7 +24,7 @@ pub enum Word {
 }
 
 // A coordinate as its offset, the value in centimetres plus 1,000,000.
-#[derive(Drop)]
+#[derive(Clone, Copy)]
 pub enum Coordinate {
     At(u32),
     Outside,
@@ -62,6 +64,7 @@ pub fn read(w: u32) -> Word
     }
 }
 
+#[tactic(auto, using(crate::proofs::Coordinates::at_down))]
 pub fn place(p: u32) -> Coordinate
     requires { p < 268435456 }
     ensures { result ≡ coordinate_of p }
