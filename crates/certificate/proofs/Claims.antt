@@ -3,12 +3,12 @@ use Prim.Native.Nat.{ℕ, ◌+◌, ◌-◌, ◌*◌, ◌≤◌, ◌<◌}
 use native.Mathlib.Nat.{add-sub_cancel}
 use native.Mathlib.Omega.{arith}
 use mathlib.Core.Path.{◌≡◌, refl, sym, ap, ◌∙◌}
-use mathlib.Core.Bool.{Bool, true, false, not, ◌&&◌, cond, false≢true}
+use mathlib.Core.Bool.{Bool, true, false, ◌&&◌, cond, false≢true}
 use mathlib.Core.List.{List, ◌++◌, map}
 use lib.ListN.{length, get_or, take, drop, length-drop}
 use lib.Seq.{length-take-le}
 use lib.Dec.{eqb, leb}
-use borrow.Author.Tests.{eqb-true, eq-eqb, leb-true, le-leb, not-true, not-false}
+use borrow.Author.Tests.{eqb-true, eq-eqb, leb-true, le-leb}
 use Rattle.wcsp.proofs.Lists.{and_left, and_right}
 use Rattle.words.specs.Layout.{kind_of, payload_of, value_in}
 use Rattle.fields.specs.Limits.{max_variables}
@@ -91,8 +91,8 @@ module _ (ws : List ℕ) (n : ℕ) (is : n ≡ stated_variables ws) where
   too_short h = unclaimed ws (λ f. omega (arith, f.long))
 
   -- the words do not bind the variables in order
-  pub unordered : (b : Bool) → b ≡ binds_in_order 0 (take (n + 1 - 1) (drop 1 ws)) → not b ≡ true → Claim.Nothing ≡ claim_of ws
-  unordered b e t = unclaimed ws (λ f. false≢true (sym (not-true b t) ∙ e ∙ ap (binds_in_order 0) part_is ∙ f.order))
+  pub unordered : (b : Bool) → b ≡ binds_in_order 0 (take (n + 1 - 1) (drop 1 ws)) → b ≡ false → Claim.Nothing ≡ claim_of ws
+  unordered b e t = unclaimed ws (λ f. false≢true (sym t ∙ e ∙ ap (binds_in_order 0) part_is ∙ f.order))
 
   -- a word of the cost is of another kind
   pub no_low : (k : ℕ) → k ≡ kind_of (get_or ws (n + 1) 0) → (k ≡ 6 → ⊥) → Claim.Nothing ≡ claim_of ws
@@ -103,7 +103,7 @@ module _ (ws : List ℕ) (n : ℕ) (is : n ≡ stated_variables ws) where
 
   -- no test fails: the answer is the number and the cost of the two words behind the bindings
   pub all_there : (b : Bool) (p q c : ℕ) → c ≡ p + q * cost_unit → kind_of (get_or ws 0 0) ≡ 1 → n ≤ max_variables → n + 3 ≤ length ws
-      → b ≡ binds_in_order 0 (take (n + 1 - 1) (drop 1 ws)) → not b ≡ false → kind_of (get_or ws (n + 1) 0) ≡ 6 → kind_of (get_or ws (n + 2) 0) ≡ 12
+      → b ≡ binds_in_order 0 (take (n + 1 - 1) (drop 1 ws)) → b ≡ true → kind_of (get_or ws (n + 1) 0) ≡ 6 → kind_of (get_or ws (n + 2) 0) ≡ 12
       → p ≡ payload_of (get_or ws (n + 1) 0) → q ≡ payload_of (get_or ws (n + 2) 0)
       → Claim.Stated n c ≡ claim_of ws
   all_there b p q c sum h m l e t k₁ k₂ ep eq =
@@ -112,7 +112,7 @@ module _ (ws : List ℕ) (n : ℕ) (is : n ≡ stated_variables ws) where
         head = h;
         few = rw (← is) m;
         long = rw (← is) l;
-        order = ap (binds_in_order 0) (sym part_is) ∙ sym e ∙ not-false b t;
+        order = ap (binds_in_order 0) (sym part_is) ∙ sym e ∙ t;
         low = rw (← is) k₁;
         high = rw (← is) k₂;
       })

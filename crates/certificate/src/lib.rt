@@ -1,4 +1,6 @@
 // The words of a certificate: the claim in front of the derivation, read and written.
+#![tactic(auto)]
+
 ghost use Rattle.std.specs.Prelude.{◌≡◌, true, ◌++◌, map, ◌+◌, ◌≤◌, length, drop};
 ghost use Rattle.std.proofs.lemmas.List.Edits.{sets};
 ghost use Rattle.words.specs.Layout.{value_in};
@@ -13,7 +15,7 @@ use fields::wide;
 const COST_UNIT: u64 = 268435456;
 
 // What the front of a certificate claims: so many variables and a cost, or nothing, since it has not the form.
-#[derive(Drop)]
+#[derive(Clone, Copy)]
 pub enum Claim {
     Stated(usize, u64),
     Nothing,

@@ -2,7 +2,6 @@
 use Prim.Native.Nat.{ℕ}
 use mathlib.Core.Path.{◌≡◌, refl}
 use mathlib.Core.Bool.{Bool, true, false, not, cond}
-use mathlib.Core.List.{List}
 use lib.Dec.{eqb}
 use Rattle.wcsp.specs.Entry.{cost}
 use Rattle.fields.specs.declared.Answer.{Answer}

@@ -1,4 +1,6 @@
 // The cost call: the sum of the costs of the entries that an assignment matches, over the words of an instance.
+#![tactic(auto)]
+
 ghost use Rattle.std.specs.Prelude.{◌≡◌, true, ◌≤◌, get_or, drop};
 ghost use Rattle.fields.specs.Limits.{greatest_cost};
 ghost use Rattle.cost.specs.Costing.{cost_in, matched_after, cost_from};

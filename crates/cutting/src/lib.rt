@@ -1,4 +1,6 @@
 // A season's bytes cut into sheets, whatever pieces they come in: the phase that the bytes lead to, and what they bring to its end.
+#![tactic(auto)]
+
 ghost use Rattle.std.specs.Prelude.{◌≡◌, List, true, ℕ, ◌-◌, ◌≤◌, ◌<◌, min, length};
 ghost use Rattle.std.proofs.Math.Seq.{paste};
 ghost use Rattle.cutting.specs.Cutting.{opened, takes_byte, wanted_in};
@@ -15,7 +17,7 @@ pub const SHEET_BYTES: usize = 64000;
 
 // How far the reading has come: so many bytes of a length; so many of a sheet, and how many it has in all; so many bytes still to pass over; or
 // to the end.
-#[derive(Drop)]
+#[derive(Clone, Copy)]
 pub enum Phase {
     Length(usize),
     Body(usize, usize),
@@ -24,7 +26,7 @@ pub enum Phase {
 }
 
 // What came to its end: nothing, a length, a sheet of so many bytes, or a sheet that was passed over.
-#[derive(Drop)]
+#[derive(Clone, Copy)]
 pub enum Found {
     Nothing,
     Length,
@@ -33,7 +35,7 @@ pub enum Found {
 }
 
 // The phase behind some bytes, what they brought to its end, and how many they are.
-#[derive(Drop)]
+#[derive(Clone, Copy)]
 pub struct Taken {
     pub phase: Phase,
     pub found: Found,
@@ -88,6 +90,7 @@ fn fill(body: &mut [u8], at: usize, end: usize, bytes: &[u8]) -> usize
 }
 
 // What a length of so many words opens, with how many bytes were taken to its end.
+#[tactic(auto, using(crate::proofs::Phases::opened_long))]
 fn open(words: u32, count: usize) -> Taken
     ensures { ((body : List ℕ) → record { phase = result.phase; body = body; found = result.found } ≡ opened words body) × (result.count ≡ count) }
 {

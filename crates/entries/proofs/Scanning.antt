@@ -6,7 +6,7 @@ use mathlib.Core.Path.{◌≡◌, refl, sym, ap, ap₂, ◌∙◌}
 use mathlib.Core.Bool.{Bool, true, false, ◌&&◌, ◌||◌, cond}
 use mathlib.Core.List.{List, [], ◌∷◌, ◌++◌}
 use lib.ListN.{length, get_or, take, drop, length-take, get_or-eq_default}
-use lib.Seq.{get_or-take}
+use lib.Seq.{get_or-take, drop-drop}
 use lib.Dec.{eqb, leb, ltb}
 use denote.Enum.Declared.{tag_of}
 use types.Run.{OneOf, miss}
@@ -23,6 +23,7 @@ use Rattle.reader.specs.declared.word.Next.{Next}
 use Rattle.reader.specs.declared.word.Next.TheVariants.{End}
 use Rattle.reader.specs.declared.word.Next.TheVariants.{Word as Found}
 use Rattle.reader.specs.Next.{next_of}
+use Rattle.reader.proofs.Turning.{near_on}
 use Rattle.entries.specs.declared.Got.{Got}
 use Rattle.entries.specs.declared.Got.TheVariants.{Number, Fault}
 use Rattle.entries.specs.Entries.{Scanned, goes, stops, scan_binding, scan_closing, scan_cost, scan_forbidden, scan_word, resume, entries_fault}
@@ -304,6 +305,12 @@ turn_on ds (Goes from count) [] g = turn_end ds from count (eqb from 0) refl
 turn_on ds (Goes from count) (w ∷ ws) g = turn_word ds from count w ws (scan_word ds from count w) refl
 turn_on ds (Ends count) ws g = let z : ◌≡◌ {A = ℕ} 0 1 = cc in absurd (omega arith)
 turn_on ds (Stops k) ws g = let z : ◌≡◌ {A = ℕ} 0 1 = cc in absurd (omega arith)
+
+-- and a turn of the loop: the next state and the next index
+pub turn_step : (ds : List ℕ) (b b' : Behind) (ws : List ℕ) (i j : ℕ) → goes_on b ≡ true → i ≤ length ws → b' ≡ scan_on ds b (next_of (drop i ws)) → j ≡ i + 1
+    → (goes_on b' ≡ true → j ≤ length ws) × (scan_from ds b' (drop j ws) ≡ scan_from ds b (drop i ws))
+turn_step ds b b' ws i j g h e k =
+    rw (e, k) (near_on goes_on (scan_on ds) (ends_on ds) ws b i h, rw (drop-drop 1 i ws) at (sym (turn_on ds b (drop i ws) g)))
 
 pub turned : (ds : List ℕ) (b : Behind) (ws : List ℕ) → goes_on b ≡ false → got_in b ≡ scan_from ds b ws
 unfolding scan_from

@@ -1,5 +1,7 @@
 // The entries' words: their faults and their number. What a word gives where words are judged, a number or a fault, stands here too: head and
 // station words have it as well.
+#![tactic(auto)]
+
 ghost use Rattle.std.specs.Prelude.{◌≡◌, ◌≤◌, length, get_or, take, drop};
 ghost use Rattle.fields.specs.Limits.{max_variables};
 ghost use Rattle.entries.specs.Entries.{scan_binding, scan_closing, scan_cost, scan_forbidden, scan_word};
@@ -11,7 +13,7 @@ use reader::{come_to, moved, next};
 use words::Word;
 
 // A number that was read, or the number of the fault at which reading ends.
-#[derive(Drop)]
+#[derive(Clone, Copy)]
 pub enum Got {
     Number(u32),
     Fault(u32),
@@ -19,7 +21,7 @@ pub enum Got {
 
 // The state of the scan behind an entry word: the lowest variable that may be bound next (0: no entry is open) and the
 // count of entries closed; behind the last word that count; or the number of the fault at which reading ends.
-#[derive(Drop)]
+#[derive(Clone, Copy)]
 pub enum Behind {
     Goes(u32, u32),
     Ends(u32),
@@ -86,6 +88,7 @@ fn scan_cost(count: u32, c: u32) -> Behind
     count_on(count)
 }
 
+#[tactic(auto, using(crate::proofs::Scanning::forbidden_good))]
 fn scan_forbidden(count: u32, p: u32) -> Behind
     ensures { result ≡ state_of (scan_forbidden count p) }
 {

@@ -66,6 +66,10 @@ module _ (f : Figures) where
   unfolding takes_sheet
   takes_sum e = leb-true f.sum (sheets_of f * greatest_allowed) (and_right (ltb (sheets_of f) most_sheets) (leb f.sum (sheets_of f * greatest_allowed)) e)
 
+-- the sum of fewer than 10,000 sheets
+pub sum_few : (f : Figures) → takes_sheet f ≡ true → f.sum ≤ most_sheets * greatest_allowed
+sum_few f e = omega (arith, takes_sheets f e, takes_sum f e)
+
 -- ---- the sheet that leads
 
 module _ (f : Figures) (column cost : ℕ) where

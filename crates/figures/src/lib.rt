@@ -1,4 +1,6 @@
 // A season's figures: how many sheets each outcome has, the sum of the least costs, and the largest with the first sheet that has it.
+#![tactic(auto)]
+
 pub mod line;
 
 ghost use Rattle.std.specs.Prelude.{◌≡◌, true, ◌≤◌, ◌<◌};
@@ -17,7 +19,7 @@ pub const MOST_SHEETS: u64 = 10000;
 const GREATEST_ALLOWED: u64 = 268431360;
 
 // The count of each column, the sum of the least costs, and the largest with its sheet (0: none was planned).
-#[derive(Drop)]
+#[derive(Clone, Copy)]
 pub struct Figures {
     pub counts: [u32; COLUMNS],
     pub sum: u64,
@@ -59,6 +61,7 @@ pub fn sheets(figures: Figures) -> u64
 }
 
 // Whether one sheet more can be counted.
+#[tactic(auto, using(crate::proofs::Counting::takes_few, crate::proofs::Counting::takes_many))]
 pub fn takes(figures: Figures) -> bool
     ensures { result ≡ takes_sheet figures }
 {
@@ -66,6 +69,7 @@ pub fn takes(figures: Figures) -> bool
     sheets < MOST_SHEETS && figures.sum <= sheets * GREATEST_ALLOWED
 }
 
+#[tactic(auto, using(crate::proofs::Counting::leads_first, crate::proofs::Counting::leads_above))]
 fn is_leading(figures: Figures, column: usize, cost: u64) -> bool
     ensures { result ≡ leads figures column cost }
 {
@@ -73,6 +77,7 @@ fn is_leading(figures: Figures, column: usize, cost: u64) -> bool
 }
 
 // One sheet more, under a column; its cost counts if it is planned.
+#[tactic(auto, using(crate::proofs::Counting::sum_few))]
 pub fn count(figures: Figures, column: usize, cost: u64) -> Figures
     requires figures_value { (takes_sheet figures ≡ true) × (column < column_count) }
     requires cost_le_greatest_allowed { column ≡ planned_column → cost ≤ greatest_allowed }

@@ -1,9 +1,10 @@
 -- The words in front of the entries: what each reader answers, over plain numbers and lists, one law for each way out.
 use Prim.Native.Nat.{ℕ, ◌≤◌, ◌<◌}
 use native.Mathlib.Omega.{arith}
-use mathlib.Core.Path.{◌≡◌, sym, ◌∙◌}
+use mathlib.Core.Path.{◌≡◌, refl, sym, ◌∙◌}
 use mathlib.Core.Bool.{false}
 use mathlib.Core.Option.{none}
+use mathlib.Core.List.{List}
 use lib.Dec.{eqb}
 use borrow.Author.Tests.{ne_eqb}
 use Rattle.words.specs.declared.Word.{Word}
@@ -14,8 +15,13 @@ use Rattle.words.proofs.Inverse.{head_kind, size_kind}
 use Rattle.fields.specs.Limits.{max_variables, max_values}
 use Rattle.fields.specs.Front.{head_in, size_in}
 use Rattle.fields.proofs.Fronts.{below, above, head_is, head_none, head_out, size_is, size_none, size_out}
+use Rattle.reader.specs.declared.word.Next.{Next}
+use Rattle.reader.specs.declared.word.Next.TheVariants.{End}
+use Rattle.reader.specs.declared.word.Next.TheVariants.{Word as Found}
+use Rattle.reader.specs.Next.{next_of}
+use Rattle.reader.proofs.Reading.{by_word}
 use Rattle.entries.specs.declared.Got.TheVariants.{Number, Fault}
-use Rattle.input.specs.Phases.{head_got, size_got}
+use Rattle.input.specs.Phases.{head_got, head_next, size_got}
 
 head_missed : (w : ℕ) → head_in w ≡ none → Fault 1 ≡ head_got w
 unfolding head_got
@@ -50,3 +56,24 @@ module _ (w k : ℕ) (read : Word) (e : read ≡ word_of w) where
     pub size_good : 1 ≤ k → k ≤ max_values → Number k ≡ size_got w
     unfolding size_got
     size_good l h = let (s, p) = size_kind w k (sym e ∙ g) in rw (size_is w k s p l h, ne_eqb k 0 (omega arith))
+
+-- a head of too many variables, as the words give it
+pub word_in : Next → ℕ
+word_in (Found w) = w
+word_in End = 0
+
+pub number_in : Word → ℕ
+number_in (Head n) = n
+number_in x = 0
+
+pub next_word_in : (w : ℕ) → word_in (Found w) ≡ w
+unfolding word_in
+next_word_in w = refl
+
+pub head_number_in : (n : ℕ) → number_in (Head n) ≡ n
+unfolding number_in
+head_number_in n = refl
+
+pub head_beyond : (ws : List ℕ) → next_of ws ≡ Found (word_in (next_of ws)) → word_of (word_in (next_of ws)) ≡ Head (number_in (word_of (word_in (next_of ws))))
+    → max_variables < number_in (word_of (word_in (next_of ws))) → head_next ws ≡ Fault 1
+head_beyond ws f g h = sym (by_word (Number 0) head_got _ (next_of ws) refl _ _ f (head_high _ _ _ refl g h))

@@ -74,15 +74,18 @@ size_payload w d e h =
     (sym p ∙ e, omega arith)
 
 pub sized_bounds : (ws : List ℕ) (d : ℕ) → Sized ws d → (1 ≤ d) × (d ≤ max_values) × (1 ≤ length ws)
+sized_bounds [] d x' = elim x' [ ]
 sized_bounds (w ∷ ws) d (with_size h e) = let s = size_payload w d e h in omega arith
 
 -- ---- k stations
 
 good_more : (k d : ℕ) (ws : List ℕ) → Sized ws d → good_sizes (suc k) ws ≡ good_sizes k (drop 1 ws)
 unfolding good_sizes
+good_more k d [] x' = elim x' [ ]
 good_more k d (w ∷ ws) (with_size h e) = rw (ne_eqb (size_in w) 0 (omega arith))
 
 payload_more : (k d : ℕ) (ws : List ℕ) → Sized ws d → map payload_of (take (suc k) ws) ≡ d ∷ map payload_of (take k (drop 1 ws))
+payload_more k d [] x' = elim x' [ ]
 payload_more k d (w ∷ ws) (with_size h e) = rw (size_payload w d e h).0
 
 good_none : (k f : ℕ) (ws : List ℕ) → Fault f ≡ size_next ws → good_sizes (suc k) ws ≡ false

@@ -11,6 +11,7 @@ use reader::{come_to, moved, next, word_at};
 use words::Word;
 
 // The number of variables that the head gives, 0 where there are no words at all.
+#[tactic(auto, using(crate::proofs::Reading::head_beyond, crate::proofs::Reading::next_word_in, crate::proofs::Reading::head_number_in))]
 pub fn read_head(words: &[u32]) -> Got
     ensures { result ≡ head_next words.now }
 {

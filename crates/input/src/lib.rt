@@ -1,4 +1,6 @@
 // Instances, read in one pass: the fault nearest the front decides. The readers of the phases serve sheets too.
+#![tactic(auto)]
+
 pub mod front;
 
 ghost use Rattle.std.specs.Prelude.{◌≡◌};
@@ -8,7 +10,7 @@ use entries::{Got, fault_in};
 use fields::MAX_VARIABLES;
 
 // An instance's number (0: accepted), its variables, its entries, and the sizes of twelve variables, those it lacks being 1.
-#[derive(Drop)]
+#[derive(Clone, Copy)]
 pub struct Validated {
     pub number: u32,
     pub variables: u32,
@@ -17,7 +19,7 @@ pub struct Validated {
 }
 
 // The stations that were read: a fault (0: none), the index behind them, and the sizes as in Validated.
-#[derive(Drop)]
+#[derive(Clone, Copy)]
 pub struct Stations {
     pub number: u32,
     pub behind: usize,
@@ -25,7 +27,7 @@ pub struct Stations {
 }
 
 // The station words that are being read: how many are to come (0 at a fault), and the stations so far as in Stations.
-#[derive(Drop)]
+#[derive(Clone, Copy)]
 pub struct Sizing {
     pub left: usize,
     pub number: u32,

@@ -1,4 +1,6 @@
 // The lines of an assignment put into a buffer: each variable with its value and the whole metres to it.
+#![tactic(auto)]
+
 ghost use Rattle.std.specs.Prelude.{◌≡◌, ◌+◌, ◌*◌, ◌≤◌, ◌<◌, length, get_or};
 ghost use Rattle.words.specs.Layout.{payload_of};
 ghost use Rattle.fields.specs.Limits.{max_variables};
@@ -8,7 +10,7 @@ ghost use Rattle.listing.specs.Listed.{metres_to, variable_lines, assignment_lin
 ghost use Rattle.listing.specs.Plans.{HoldsPlan};
 
 // The text that a program prints: so many bytes of the buffer. A head and twelve lines take at most 832.
-#[derive(Drop)]
+#[derive(Clone, Copy)]
 pub struct Text {
     pub bytes: [u8; 1024],
     pub length: usize,

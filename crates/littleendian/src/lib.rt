@@ -1,4 +1,6 @@
 // Bytes read as little-endian words, four bytes each, and words written so.
+#![tactic(auto)]
+
 ghost use Rattle.std.specs.Prelude.{◌≡◌, [], ◌∷◌, ◌++◌, ◌+◌, ◌*◌, ◌/◌, ◌≤◌, length, take, drop};
 ghost use Rattle.std.proofs.lemmas.List.Edits.{sets};
 ghost use Rattle.littleendian.specs.Words.{words_in, word_at, bytes_of};

@@ -129,7 +129,9 @@ module _ (ws : List ℕ) (i k f d e g : ℕ) (size : d ≡ payload_of (get_or ws
 
   pub count_ahead_lem : count_ahead ws (suc (suc k)) f ≡ d * e + count_ahead ws (suc k) g
   unfolding leg_count
-  count_ahead_lem = rw (ahead_next, ahead_tail, points_length d (drop (f + 1) ws), points_length e (drop (g + 1) ws))
+  count_ahead_lem =
+      rw (ahead_next, ahead_tail, points_length d (drop (f + 1) ws), points_length e (drop (g + 1) ws))
+      (ap (λ n. d * e + leg_count (n ∷ map length (stations_from k (drop (g + 1 + 2 * e) ws)))) (points_length e (drop (g + 1) ws)))
 
   pub legs_next : (whole t t' : List ℕ) (o : ℕ) → whole ≡ sets t o (all_leg_words (legs_ahead ws i (suc (suc k)) f))
       → t' ≡ sets t o (all_leg_words (legs_between i 0 (points_from d (drop (f + 1) ws)) (points_from e (drop (g + 1) ws))))

@@ -1,4 +1,6 @@
 // The instance made from a sheet: its front, a leg for each pair of neighbouring values, then the sheet's entries.
+#![tactic(auto)]
+
 mod legs;
 
 ghost use Rattle.std.specs.Prelude.{◌≡◌, ◌+◌, ◌-◌, ◌≤◌, length, drop};
@@ -44,6 +46,7 @@ fn write_instance(
 }
 
 // Makes the instance of a sheet: 1 to 5, then 10, before the first write.
+#[tactic(auto, using(crate::proofs::Making::empty_make))]
 pub fn make(sheet: &[u32], target: &mut [u32]) -> Answer
     ensures returned { record { answer = result; target = target.new } ≡ make_call sheet.now target.old }
 {

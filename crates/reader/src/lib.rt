@@ -1,4 +1,6 @@
 // A reader that carries the caller's words and how far it has come. Its functions are thin: the work is that of `next_word` and `next_index`, on the slice and the number.
+#![tactic(auto)]
+
 pub mod word;
 
 ghost use Rattle.std.specs.Prelude.{◌≡◌, ◌+◌, ◌≤◌, length, drop};
@@ -6,13 +8,14 @@ ghost use Rattle.reader.specs.Next.{next_of};
 
 use crate::word::Next;
 
-#[derive(Drop)]
+#[derive(Clone, Copy)]
 pub struct Reader<'a> {
     pub words: &'a [u32],
     pub at: usize,
 }
 
 // The word at an index.
+#[tactic(auto, unfolding(crate::specs::Next::next_of))]
 fn next_word(words: &[u32], at: usize) -> Next
     ensures { result ≡ next_of (drop at words.now) }
 {

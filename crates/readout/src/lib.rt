@@ -1,4 +1,6 @@
 // The panel's number: whole metres from a position to the place of an assignment's value.
+#![tactic(auto)]
+
 ghost use Rattle.std.specs.Prelude.{◌≡◌, ◌<◌, ◌≤◌, length, get_or};
 ghost use Rattle.distance.specs.Metres.{max_offset};
 ghost use Rattle.sheet.specs.Sheet.{sheet_fault, sheet_sizes};

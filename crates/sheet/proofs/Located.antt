@@ -44,20 +44,24 @@ points_length (suc d) ws = ap suc (points_length d (drop 2 ws))
 module _ (k d : ℕ) where
   pub good_more : (ws : List ℕ) → Sized ws d → good_positions d (drop 1 ws) ≡ true → good_stations (suc k) ws ≡ good_stations k (drop (1 + 2 * d) ws)
   unfolding good_stations
+  good_more [] x'' g = elim x'' [ ]
   good_more (w ∷ ws) (with_size h e) g =
       let o : 1 + 2 * d ≡ suc (2 * d) = omega arith in
       rw (ne_eqb (size_in w) 0 (omega arith), e, g, o)
 
   pub good_broken : (ws : List ℕ) → Sized ws d → good_positions d (drop 1 ws) ≡ false → good_stations (suc k) ws ≡ false
   unfolding good_stations
+  good_broken [] x'' g = elim x'' [ ]
   good_broken (w ∷ ws) (with_size h e) g = rw (ne_eqb (size_in w) 0 (omega arith), e, g)
 
   pub sizes_more : (ws : List ℕ) → Sized ws d → map length (stations_from (suc k) ws) ≡ d ∷ map length (stations_from k (drop (1 + 2 * d) ws))
   unfolding stations_from
+  sizes_more [] x' = elim x' [ ]
   sizes_more (w ∷ ws) (with_size h e) = rw ((size_payload w d e h).0, points_length d ws)
 
   pub behind_more : (ws : List ℕ) → Sized ws d → behind_stations (suc k) ws ≡ behind_stations k (drop (1 + 2 * d) ws)
   unfolding behind_stations
+  behind_more [] x' = elim x' [ ]
   behind_more (w ∷ ws) (with_size h e) = rw (size_payload w d e h).0
 
 pub good_none : (k f : ℕ) (ws : List ℕ) → Fault f ≡ size_next ws → good_stations (suc k) ws ≡ false

@@ -1,4 +1,6 @@
 // Sheets, read in one pass as instances are, and the positions of their values.
+#![tactic(auto)]
+
 pub mod points;
 pub mod stations;
 
@@ -12,7 +14,7 @@ use fields::MAX_VARIABLES;
 
 // A sheet's number (0: accepted), its variables, the index of its first entry word, and the sizes of twelve variables,
 // those it lacks being 1.
-#[derive(Drop)]
+#[derive(Clone, Copy)]
 pub struct SheetRead {
     pub number: u32,
     pub variables: u32,
@@ -21,7 +23,7 @@ pub struct SheetRead {
 }
 
 // The position of a value: its coordinates in centimetres counted from -1,000,000.
-#[derive(Drop)]
+#[derive(Clone, Copy)]
 pub struct Place {
     pub easting: u32,
     pub northing: u32,
@@ -29,7 +31,7 @@ pub struct Place {
 
 // What is ahead in a station of d values: its station word; a coordinate word, m others following; nothing, where all are
 // read; or the number of the fault at which reading ends.
-#[derive(Drop)]
+#[derive(Clone, Copy)]
 pub enum Ahead {
     Station,
     Places(u32, u32),

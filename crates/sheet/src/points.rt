@@ -10,7 +10,7 @@ use crate::Place;
 use words::Coordinate;
 
 // Where the values of one variable stand in a sheet: the index of the first's easting, and their number.
-#[derive(Drop)]
+#[derive(Clone, Copy)]
 pub struct Values {
     pub at: usize,
     pub size: usize,

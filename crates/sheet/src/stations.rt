@@ -121,6 +121,7 @@ fn read_station(words: &[u32], at: usize) -> Got
 }
 
 // The sizes of a sheet's n variables, each followed by the positions of its values.
+#[tactic(auto, using(crate::proofs::Located::stations_none))]
 pub fn read_stations(words: &[u32], n: usize) -> Stations
     requires { (n ≤ max_variables) × (min 1 n ≤ length words.now) }
     ensures { result ≡ stations_read n words.now }

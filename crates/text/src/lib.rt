@@ -1,4 +1,6 @@
 // The printed text: numbers and lines put into a buffer behind the bytes that it holds.
+#![tactic(auto)]
+
 ghost use Rattle.std.specs.Prelude.{[], ◌∷◌, ◌+◌, ◌≤◌, length};
 ghost use Rattle.text.specs.Text.{decimal, text_bound, line, refused_line, paused_line, full_line, cost_lines, plan_head, accepted_head, three_line, variable_line};
 ghost use Rattle.text.specs.Putting.{Put};
