@@ -1,4 +1,6 @@
 // Clauses by value: twelve signs in four blocks of 24 bits, so that union and comparison take four operations and a row's words need no unpacking.
+#![tactic(auto)]
+
 ghost use Rattle.std.specs.Prelude.{◌≡◌, List, ℕ, ◌<◌, ◌≤◌, ◌-◌, ◌/◌, ◌%◌, ◌+◌, ◌*◌, get_or, set, replicate};
 ghost use Rattle.std.specs.Int.Bits.{bit_and};
 ghost use Rattle.wcsp.specs.Clause.{ValidClause, tautology, same, bucket};
@@ -6,7 +8,7 @@ ghost use Rattle.wcsp.specs.Rule.{joined, others, nested, clashing, permitted};
 ghost use Rattle.words.specs.Layout.{unpacked};
 ghost use Rattle.clause.specs.Packed.{any_equal, signs_of, FitsBlocks, Holds, FullSigns};
 
-#[derive(Drop)]
+#[derive(Clone, Copy)]
 pub struct Clause {
     pub a: u32,
     pub b: u32,

@@ -1,4 +1,6 @@
 // Tables from last year: a table of five-word rows into one of six-word rows, and back. The source is only read; the target is written whole or not at all.
+#![tactic(auto)]
+
 ghost use Rattle.std.specs.Prelude.{◌≡◌};
 ghost use Rattle.conversion.specs.Calls.{to_six_call, to_five_call};
 

@@ -1,4 +1,6 @@
 // Tables from last year: the form of five-word rows, and the test of a slice for such a table.
+#![tactic(auto)]
+
 ghost use Rattle.std.specs.Prelude.{◌≡◌, ◌&&◌, List, ℕ, ◌+◌, ◌*◌, ◌≤◌, length, drop};
 ghost use Rattle.clause.specs.Packed.{signs_of, FitsBlocks, FullSigns};
 ghost use Rattle.table.specs.Meaning.{rows_from_in};

@@ -1,4 +1,6 @@
 // A table written in the other form: its head and sizes, then its rows one after the other, and whether a weight has no place there.
+#![tactic(auto)]
+
 ghost use Rattle.std.specs.Prelude.{◌≡◌, false, [], ◌∷◌, ◌++◌, map, ◌+◌, ◌-◌, ◌*◌, ◌≤◌, length, take, drop, replicate};
 ghost use Rattle.wcsp.specs.Row.{heavy};
 ghost use Rattle.words.specs.Layout.{count_word};
@@ -73,6 +75,7 @@ pub fn write_five(source: &[u32], target: &mut [u32], base: usize, count: usize)
 }
 
 // Some row's weight has no place in one word.
+#[tactic(auto, using(crate::proofs::Weights::one_heavy))]
 pub fn too_wide(t: &[u32], base: usize, count: usize) -> bool
     requires { base + row_width * count ≤ length t.now }
     ensures { result ≡ heavy five_max_weight (rows_from count (drop base t.now)) }

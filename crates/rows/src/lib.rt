@@ -1,4 +1,6 @@
 // Rows in a table that the caller lends: reading and finding. Rows start at `base`; `count` of them are there.
+#![tactic(auto)]
+
 ghost use Rattle.std.specs.Prelude.{◌≡◌, [], ◌∷◌, ◌+◌, ◌*◌, ◌<◌, ◌≤◌, length, get_or, drop};
 ghost use Rattle.clause.specs.Packed.{FitsBlocks};
 ghost use Rattle.rows.specs.Raw.{row_width, max_weight, raw_at, raws_in, weight_in, row_weighs, raw_row, clause_in, find_from};
@@ -14,7 +16,7 @@ pub const MAX_WEIGHT: u64 = 72057594037927935;
 pub const HIGH_UNIT: u64 = 268435456;
 
 // Where a row stands.
-#[derive(Drop)]
+#[derive(Clone, Copy)]
 pub enum Found {
     At(usize),
     Missing,

@@ -1,4 +1,6 @@
 // Rows written to a table that the caller lends: behind the last, added, reweighed, removed. Rows start at `base`; `count` of them are there.
+#![tactic(auto)]
+
 ghost use Rattle.std.specs.Prelude.{◌≡◌, [], ◌∷◌, ◌++◌, ◌+◌, ◌*◌, ◌<◌, ◌≤◌, length, take, drop, replicate};
 ghost use Rattle.clause.specs.Packed.{FitsBlocks};
 ghost use Rattle.rows.specs.Raw.{row_width, max_weight, raw_words, raw_at, raws_in, Laid, Left, weighing, raw_row, sign_words_in, reweighed, without};

@@ -1,4 +1,6 @@
 // Tables that a caller hands in: valid or not, the shape of a valid one, and its empty row's weight.
+#![tactic(auto)]
+
 ghost use Rattle.std.specs.Prelude.{◌≡◌, true, ◌&&◌, List, ◌++◌, ℕ, ◌+◌, ◌-◌, ◌*◌, ◌/◌, ◌<◌, ◌≤◌, min, length, take, drop, replicate};
 ghost use Rattle.wcsp.specs.Sign.{full};
 ghost use Rattle.wcsp.specs.Row.{empty_weight};
@@ -20,28 +22,28 @@ use rows::Found;
 pub const MAX_ROWS: usize = 4096;
 
 // A valid table's number of variables, number of rows, and the full signs of twelve variables.
-#[derive(Drop)]
+#[derive(Clone, Copy)]
 pub struct Shape {
     pub variables: usize,
     pub count: usize,
     pub fulls: Clause,
 }
 
-#[derive(Drop)]
+#[derive(Clone, Copy)]
 pub enum Checked {
     Table(Shape),
     Invalid,
 }
 
 // The number of variables that a head gives.
-#[derive(Drop)]
+#[derive(Clone, Copy)]
 enum Head {
     Variables(usize),
     Absent,
 }
 
 // The full signs of the sizes that the station words give.
-#[derive(Drop)]
+#[derive(Clone, Copy)]
 pub enum Fulls {
     Signs(Clause),
     Bad,
@@ -237,6 +239,7 @@ fn read_fulls(t: &[u32], n: usize) -> Fulls
 }
 
 // The shape that head, sizes and row count give, where these words are there; nothing behind them is looked at.
+#[tactic(auto, using(crate::proofs::Checking::too_short))]
 pub fn front(t: &[u32]) -> Checked
     ensures { result ≡ front_table t.now }
 {
