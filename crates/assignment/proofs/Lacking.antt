@@ -16,12 +16,15 @@ use Rattle.wcsp.proofs.EmptyRow.{falsifies_empty}
 
 no_signs : (m : ℕ) (c : List ℕ) → ValidClause (replicate m 1) c → c ≡ replicate m 0
 unfolding full
+no_signs zero (S ∷ c) x'' = elim x'' [ ]
+no_signs (suc m) [] x3 = elim x3 [ ]
 no_signs zero [] nil = refl
 no_signs (suc m) (S ∷ c) (cons h r) = ap₂ ◌∷◌ (omega arith) (no_signs m c r)
 
 -- a valid clause has no sign at the m variables of one value behind the others
 lacking_signs : (ds c : List ℕ) (m : ℕ) → ValidClause (ds ++ replicate m 1) c → drop (length ds) c ≡ replicate m 0
 lacking_signs [] c m v = no_signs m c v
+lacking_signs (d ∷ ds) [] m v = elim v [ ]
 lacking_signs (d ∷ ds) (S ∷ c) m (cons h r) = lacking_signs ds c m r
 
 falsifies_zeros : (q c : List ℕ) (m : ℕ) → drop (length q) c ≡ replicate m 0 → falsifies (q ++ replicate m 0) c ≡ falsifies q c

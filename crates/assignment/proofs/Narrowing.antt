@@ -9,7 +9,8 @@ use mathlib.Core.List.{List, ◌∷◌}
 use lib.ListN.{length, get_or, drop, drop_of_length-le}
 use lib.Seq.{drop-cons}
 use lib.Bits.{bit_and}
-use borrow.Author.Tests.{eq-eqb, ne_eqb}
+use lib.Dec.{eqb}
+use borrow.Author.Tests.{eqb-true, eqb-false, eq-eqb, ne_eqb}
 use Rattle.wcsp.specs.Clause.{bucket, falsifies}
 use Rattle.wcsp.specs.Row.{Row}
 use Rattle.wcsp.specs.Resolve.{no_row}
@@ -88,6 +89,19 @@ module _ (t : List ℕ) (base count k : ℕ) (chosen : Clause) (S : ℕ) where
           (met q c
           ∙ narrowed_at k q sign (rows_in t base count) i (in_rows t base count i h) true (ap (counts k q) read ∙ answered q c ∙ f)
           ∙ ap (λ y. narrowed k q (bit_and sign (get_or y k 0)) (drop (suc i) (rows_in t base count))) read)
+
+    -- the sign that a turn leaves, by what the row's bucket and its clause say
+    pub turned : (T : ℕ) → (low ≡ k → disjoint (signs_of x) (signs_of chosen) ≡ true → T ≡ bit_and sign (get_or (signs_of x) k 0))
+        → (low ≡ k → disjoint (signs_of x) (signs_of chosen) ≡ false → T ≡ sign) → ((low ≡ k → ⊥) → T ≡ sign) → Met (i + 1) T
+    turned T met_there kept_there kept = by_bucket (eqb low k) refl
+      where
+        by_clause : (m : low ≡ k) (b : Bool) → b ≡ disjoint (signs_of x) (signs_of chosen) → Met (i + 1) T
+        by_clause m true e = rw (met_there m (sym e)) (narrows m true e refl (get_or (signs_of x) k 0) refl)
+        by_clause m false e = rw (kept_there m (sym e)) (satisfied m false e refl)
+
+        by_bucket : (b : Bool) → eqb low k ≡ b → Met (i + 1) T
+        by_bucket true e = by_clause (eqb-true low k e) (disjoint (signs_of x) (signs_of chosen)) refl
+        by_bucket false e = let n : (low ≡ k → ⊥) = eqb-false low k e in rw (kept n) (other_bucket n)
 
   pub all_met : (i sign : ℕ) → Met i sign → count ≤ i → Over (λ q. sign ≡ narrowed k q S (rows_in t base count))
   all_met i sign met h q c =

@@ -1,4 +1,6 @@
 // The plan call: the rebuilt assignment of a table in which no pair is left.
+#![tactic(auto)]
+
 ghost use Rattle.std.specs.Prelude.{◌≡◌, true, List, ◌++◌, ℕ, suc, ◌+◌, ◌*◌, ◌<◌, ◌≤◌, length, drop};
 ghost use Rattle.std.proofs.Math.Seq.{slice};
 ghost use Rattle.wcsp.specs.Rebuild.{narrowed};

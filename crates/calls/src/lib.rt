@@ -1,4 +1,6 @@
 // The driver: makes the calls that a list of words asks for, one after the other, on a table that it encodes first. Demand 3 is its contract.
+#![tactic(auto)]
+
 ghost use Rattle.std.specs.Prelude.{◌≡◌, ◌≤◌, length, take, drop};
 ghost use Rattle.words.specs.Layout.{payload_of};
 ghost use Rattle.calls.specs.Calls.{run_asked, plan_asked, after_call};
@@ -8,7 +10,7 @@ ghost use Rattle.calls.specs.Slices.{state_in, step_in, driving_in, Leaves, Leav
 use resolution::StepAnswer;
 
 // The number of the encoding, and how many steps the calls made.
-#[derive(Drop)]
+#[derive(Clone, Copy)]
 pub struct Driven {
     pub number: u32,
     pub steps: usize,

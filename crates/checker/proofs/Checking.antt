@@ -2,7 +2,7 @@
 -- and the replay another.
 use Prim.Native.Nat.{ℕ, ◌+◌, ◌≤◌}
 use native.Mathlib.Omega.{arith}
-use mathlib.Core.Path.{◌≡◌, sym, ap, ap₂, ◌∙◌}
+use mathlib.Core.Path.{◌≡◌, refl, sym, ap, ap₂, ◌∙◌}
 use mathlib.Core.Bool.{true, cond}
 use mathlib.Core.List.{List}
 use lib.ListN.{length}
@@ -24,6 +24,7 @@ use Rattle.encoding.specs.Calls.{EncodeReturned, encoded_rows, encode_call}
 use Rattle.checker.specs.declared.CheckAnswer.{CheckAnswer}
 use Rattle.checker.specs.declared.ReplayEnd.{ReplayEnd}
 use Rattle.checker.specs.Replay.{Replayed, replay}
+use Rattle.checker.specs.Twelve.{replay_call}
 use Rattle.checker.specs.Calls.{claim_holds, judged, check_call}
 use Rattle.checker.proofs.Encoded.{GoodEncoding, coded, coded_table, encode_refused}
 use Rattle.checker.proofs.Replaying.{left_held}
@@ -104,7 +105,7 @@ module _ (inst derivation plan : List ℕ) (claimed : ℕ) (t : List ℕ) where
           second : Held t₂ (length t) (sizes_of inst) whole.rows
           second = left_held (coded_takes inst t found) (replayed_ended inst t found derivation).left table_is
 
-          pub check_stopped : (done.number ≡ 0 → ⊥) → Checks (record { number = done.number; steps = done.steps }) t₂
+          check_stopped : (done.number ≡ 0 → ⊥) → Checks (record { number = done.number; steps = done.steps }) t₂
           unfolding judged
           check_stopped m =
               let b = ne_eqb whole.number 0 (λ z. m (ap (λ d. d.number) done_is ∙ z)) in
@@ -132,3 +133,16 @@ module _ (inst derivation plan : List ℕ) (claimed : ℕ) (t : List ℕ) where
               let a : number ≡ cond (claim_holds inst plan claimed (empty_weight (length (sizes_of inst)) whole.rows)) 0 7 = p ∙ ap (λ n. cond (claim_holds inst plan claimed n) 0 7) empty_is in
               let s : done.steps ≡ whole.steps = ap (λ d. d.steps) done_is in
               rw (j, b) (λ i. record { answer = record { number = a i; steps = s i }; table = table_is i })
+
+  -- a check stopped at a step word, by what the encoding and the replay return
+  pub stopped_at : (encode_call inst t).answer.number ≡ 0 → ((replay_call (encode_call inst t).table derivation).answer.number ≡ 0 → ⊥)
+      → check_call inst derivation plan claimed t
+      ≡ record {
+        answer =
+            record {
+              number = (replay_call (encode_call inst t).table derivation).answer.number;
+              steps = (replay_call (encode_call inst t).table derivation).answer.steps;
+            };
+        table = (replay_call (encode_call inst t).table derivation).table;
+      }
+  stopped_at n m = sym (check_stopped {coding = (encode_call inst t).answer} {t₁ = (encode_call inst t).table} refl n {shape = shape_of (encode_call inst t).table} refl {done = (replay_call (encode_call inst t).table derivation).answer} {t₂ = (replay_call (encode_call inst t).table derivation).table} refl m)

@@ -4,7 +4,8 @@ use native.Mathlib.Omega.{arith}
 use mathlib.Core.Path.{◌≡◌, refl, sym, ap, ◌∙◌}
 use mathlib.Core.Bool.{Bool, true, false, cond, and-false}
 use mathlib.Core.List.{List}
-use borrow.Author.Tests.{eq-eqb, ne_eqb}
+use lib.Dec.{eqb}
+use borrow.Author.Tests.{eq-eqb, ne_eqb, eqb-true, eqb-false}
 use Rattle.wcsp.specs.Entry.{cost}
 use Rattle.fields.specs.declared.Answer.{Answer}
 use Rattle.fields.specs.Answers.{refused, good}
@@ -43,20 +44,23 @@ module _ (inst plan : List ℕ) (accepted : instance_fault inst ≡ 0) (priced :
     unfolding claim_holds
     claim_unplanned n = let (none, seven) = no_plan n in rw (none, seven)
 
-    module _ (n : priced.number ≡ 0) where
-      pub claim_other_cost : (claimed ≡ priced.value → ⊥) → Judges 7
-      unfolding claim_holds
-      claim_other_cost h =
-          rw (ne_eqb claimed (cost (entries_of inst) plan) (λ q. h (q ∙ sym (a_plan n).1)), and-false)
+    pub claim_other_cost : (claimed ≡ priced.value → ⊥) → Judges 7
+    unfolding claim_holds
+    claim_other_cost h = go (eqb priced.number 0) refl
+      where
+        go : (b : Bool) → eqb priced.number 0 ≡ b → Judges 7
+        go true n =
+            rw (ne_eqb claimed (cost (entries_of inst) plan) (λ q. h (q ∙ sym (a_plan (eqb-true priced.number 0 n)).1)), and-false)
+        go false n = rw (no_plan (eqb-false priced.number 0 n)).0
 
-      pub claim_other_weight : (empty : ℕ) → empty ≡ weight → (claimed ≡ empty → ⊥)
-          → Judges 7
-      unfolding claim_holds
-      claim_other_weight empty f h =
-          rw (ne_eqb claimed weight (λ q. h (q ∙ sym f)), and-false)
+    pub claim_other_weight : (empty : ℕ) → empty ≡ weight → (claimed ≡ empty → ⊥)
+        → Judges 7
+    unfolding claim_holds
+    claim_other_weight empty f h =
+        rw (ne_eqb claimed weight (λ q. h (q ∙ sym f)), and-false)
 
-      pub claim_true : (empty : ℕ) → empty ≡ weight → claimed ≡ priced.value → claimed ≡ empty
-          → Judges 0
-      unfolding claim_holds
-      claim_true empty f g h =
-          rw ((a_plan n).0, eq-eqb claimed weight (h ∙ f), eq-eqb claimed (cost (entries_of inst) plan) (g ∙ (a_plan n).1))
+    pub claim_true : priced.number ≡ 0 → (empty : ℕ) → empty ≡ weight → claimed ≡ priced.value → claimed ≡ empty
+        → Judges 0
+    unfolding claim_holds
+    claim_true n empty f g h =
+        rw ((a_plan n).0, eq-eqb claimed weight (h ∙ f), eq-eqb claimed (cost (entries_of inst) plan) (g ∙ (a_plan n).1))

@@ -1,4 +1,6 @@
 // The checker: it encodes an instance in a work table, replays step words there, each on any permitted pair, and judges the claim.
+#![tactic(auto)]
+
 ghost use Rattle.std.specs.Prelude.{◌≡◌, true, cond, ◌+◌};
 ghost use Rattle.wcsp.specs.Row.{empty_weight};
 ghost use Rattle.fields.specs.Limits.{max_variables};
@@ -15,21 +17,21 @@ use table::Shape;
 use words::Word;
 
 // The number (0: accepted) and the steps replayed.
-#[derive(Drop)]
+#[derive(Clone, Copy)]
 pub struct CheckAnswer {
     pub number: u32,
     pub steps: usize,
 }
 
 // What a step word names: a variable and two rows that may be resolved on it, or no such pair.
-#[derive(Drop)]
+#[derive(Clone, Copy)]
 enum Named {
     Pair(u32, usize, usize),
     Nothing,
 }
 
 // How a replay ended: its number (0: every word was good), the steps replayed, and the number of rows after the last.
-#[derive(Drop)]
+#[derive(Clone, Copy)]
 struct ReplayEnd {
     pub number: u32,
     pub steps: usize,
@@ -37,6 +39,7 @@ struct ReplayEnd {
 }
 
 // The permitted pair that a word names on a valid table: variable known, first row below the second, both in the table.
+#[tactic(auto, using(crate::proofs::Naming::forbidden_at))]
 fn named_pair(t: &[u32], shape: Shape, w: u32) -> Named
     requires { (valid_table t.now ≡ true) × (shape ≡ shape_of t.now) }
     ensures { result ≡ named_of (named_pair (domains t.now) (table_rows t.now) w) }
@@ -106,6 +109,7 @@ fn replay_valid(t: &mut [u32], shape: Shape, derivation: &[u32]) -> ReplayEnd
 }
 
 // The claim on a valid table: 7 unless the claimed cost is the plan's and the empty row's weight.
+#[tactic(auto, using(crate::proofs::Judging::claim_unplanned, crate::proofs::Judging::claim_other_cost, crate::proofs::Judging::claim_other_weight))]
 fn judge(instance: &[u32], plan: &[u8], claimed: u64, t: &[u32], base: usize, count: usize) -> u32
     requires { (instance_fault instance.now ≡ 0) × (valid_table t.now ≡ true) × (base ≡ variables_of t.now + 2) × (count ≡ row_count t.now) }
     ensures { result ≡ cond (claim_holds instance.now plan.now claimed (empty_weight max_variables (table_rows t.now))) 0 7 }
@@ -124,6 +128,7 @@ fn judge(instance: &[u32], plan: &[u8], claimed: u64, t: &[u32], base: usize, co
 }
 
 // Check: 1 to 5, 10, 12 for the encoding; each step word 6, 11, 12; then 7. Stopped after the encoding it leaves the table after the last good step.
+#[tactic(auto, using(crate::proofs::Checking::stopped_at))]
 pub fn check(
     instance: &[u32],
     derivation: &[u32],

@@ -9,7 +9,7 @@ use mathlib.Core.List.{List, ◌∷◌}
 use lib.ListN.{length, get_or, drop, drop_of_length-le}
 use lib.Seq.{drop-cons}
 use lib.Dec.{ltb}
-use borrow.Author.Tests.{lt-ltb, le-ltb}
+use borrow.Author.Tests.{lt-ltb, le-ltb, ltb-true, ltb-false}
 use Rattle.wcsp.specs.Clause.{bucket}
 use Rattle.wcsp.specs.Row.{Row}
 use Rattle.wcsp.specs.Resolve.{no_row}
@@ -95,6 +95,40 @@ module _ (t : List ℕ) (base count k : ℕ) (values : Clause) where
 
         pub one_more : sum + w ≤ max_weight → Sum (i + 1) (sum + w)
         one_more b = record { low = b; whole = λ q c. rw add-one (added q c) }
+
+    -- the sum that a turn leaves, by what the row's bucket and its clause say
+    pub turned : (T : ℕ) → (k ≤ low → disjoint (signs_of x) (signs_of values) ≡ true → T ≡ sum + weight_in (raw_at t (base + row_width * i)))
+        → (k ≤ low → disjoint (signs_of x) (signs_of values) ≡ true → T ≤ max_weight)
+        → (k ≤ low → disjoint (signs_of x) (signs_of values) ≡ false → T ≡ sum) → (low < k → T ≡ sum) → Sum (i + 1) T
+    turned T summed fits kept_there kept = by_bucket (ltb low k) refl
+      where
+        by_clause : (b : k ≤ low) (a : Bool) → a ≡ disjoint (signs_of x) (signs_of values) → Sum (i + 1) T
+        by_clause b true e =
+            rw (summed b (sym e)) (one_more b true e refl (weight_in (raw_at t (base + row_width * i))) refl (rw (summed b (sym e)) at (fits b (sym e))))
+        by_clause b false e = rw (kept_there b (sym e)) (satisfied b false e refl)
+
+        by_bucket : (b : Bool) → ltb low k ≡ b → Sum (i + 1) T
+        by_bucket true e = let l : low < k = ltb-true low k e in rw (kept l) (lower_variable l)
+        by_bucket false e = by_clause (ltb-false low k e) (disjoint (signs_of x) (signs_of values)) refl
+
+  -- what is known where row i counts and its weight takes the sum above the greatest weight
+  abbrev pub Above : ℕ → ℕ → Type 0
+  Above i sum =
+      k ≤ bucket (signs_of (clause_in (raw_at t (base + row_width * i)))) → disjoint (signs_of (clause_in (raw_at t (base + row_width * i)))) (signs_of values) ≡ true
+      → max_weight < sum + weight_in (raw_at t (base + row_width * i)) → Over (λ q. TooHigh ≡ limited_sum (tail_weight k q (rows_in t base count)))
+
+  -- the sum of the rows before i, with that
+  pub record Summing (i sum : ℕ) : Type 0 where
+    pub so_far : Sum i sum
+    pub above : i < count → Above i sum
+
+  pub summing : (i sum : ℕ) → Sum i sum → Summing i sum
+  summing i sum s =
+      record {
+        so_far = s;
+        above = λ h b d m. sum_above i sum s h (clause_in (raw_at t (base + row_width * i))) refl
+            (bucket (signs_of (clause_in (raw_at t (base + row_width * i))))) refl b true (sym d) refl (weight_in (raw_at t (base + row_width * i))) refl m;
+      }
 
   pub all_summed : (i sum : ℕ) → Sum i sum → count ≤ i → Over (λ q. Summed sum ≡ limited_sum (tail_weight k q (rows_in t base count)))
   all_summed i sum s h q c =

@@ -1,4 +1,6 @@
 // The complete call: the best values for the first variables where those of the last ones are fixed, from a table in which no pair is left.
+#![tactic(auto)]
+
 ghost use Rattle.std.specs.Prelude.{◌≡◌, true, List, ℕ, ◌+◌, ◌*◌, ◌≤◌, length, drop};
 ghost use Rattle.wcsp.specs.Rebuild.{tail_weight};
 ghost use Rattle.clause.specs.Packed.{signs_of};
@@ -15,14 +17,14 @@ use fields::Answer;
 use table::Checked;
 
 // The fixed values, carried by a clause, if they fit the table's sizes.
-#[derive(Drop)]
+#[derive(Clone, Copy)]
 pub enum FixedValues {
     Fit(Clause),
     Unfit,
 }
 
 // The sum of weights, if it is at most the greatest weight of a row.
-#[derive(Drop)]
+#[derive(Clone, Copy)]
 pub enum TailSum {
     Summed(u64),
     TooHigh,

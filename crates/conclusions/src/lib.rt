@@ -1,4 +1,6 @@
 // The conclusions of two clauses resolved on a variable, in document 01's order, tautologies left out.
+#![tactic(auto)]
+
 ghost use Rattle.std.specs.Prelude.{◌≡◌, List, [], ◌∷◌, ◌++◌, ℕ, ◌+◌, ◌<◌, ◌≤◌, get_or};
 ghost use Rattle.wcsp.specs.Clause.{ValidClause, kept};
 ghost use Rattle.wcsp.specs.Rule.{others, excluding, conclusions};

@@ -1,4 +1,6 @@
 // The encode call: an instance as rows in a table that the caller lends. It looks before it writes.
+#![tactic(auto)]
+
 ghost use Rattle.std.specs.Prelude.{◌≡◌, not, ◌&&◌, cond, [], map, ◌+◌, ◌≤◌, length, take, drop, eqb, leb};
 ghost use Rattle.wcsp.specs.Sign.{full};
 ghost use Rattle.wcsp.specs.Clause.{same};

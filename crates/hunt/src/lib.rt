@@ -1,4 +1,6 @@
 // The hunt for the next pair: bucket by bucket, taken up within a bucket at the first row that can have a partner.
+#![tactic(auto)]
+
 ghost use Rattle.std.specs.Prelude.{◌≡◌, List, ℕ, ◌+◌, ◌-◌, ◌*◌, ◌<◌, ◌≤◌, length, get_or, drop};
 ghost use Rattle.wcsp.specs.Clause.{ValidClause, bucket};
 ghost use Rattle.wcsp.specs.Row.{ValidRows};
@@ -12,7 +14,7 @@ use clause::Clause;
 use rows::Found;
 
 // What a hunt finds from a bucket on: how many buckets it passed over and two rows of the next one, or nothing.
-#[derive(Drop)]
+#[derive(Clone, Copy)]
 pub enum Hunted {
     Next(u32, usize, usize),
     Nothing,

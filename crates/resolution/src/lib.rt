@@ -1,4 +1,6 @@
 // Steps and runs on a table that the caller lends.
+#![tactic(auto)]
+
 ghost use Rattle.std.specs.Prelude.{◌≡◌, true, ℕ, ◌+◌, ◌<◌, ◌≤◌, length};
 ghost use Rattle.wcsp.specs.Row.{empty_weight};
 ghost use Rattle.wcsp.specs.Unsettled.{lowest_unsettled};
@@ -15,7 +17,7 @@ use stepping::Advanced;
 use table::{Checked, Shape};
 
 // What a step call answers: the number of a refusal, done, or the step word.
-#[derive(Drop)]
+#[derive(Clone, Copy)]
 pub enum StepAnswer {
     Refused(u32),
     Done,
@@ -23,7 +25,7 @@ pub enum StepAnswer {
 }
 
 // How a run ended: no pair left, limit or end of slice reached, or the number of a refusal.
-#[derive(Drop)]
+#[derive(Clone, Copy)]
 pub enum Outcome {
     Done,
     Paused,
@@ -31,7 +33,7 @@ pub enum Outcome {
 }
 
 // A run's outcome, the steps made, and the empty row's weight in the table it leaves.
-#[derive(Drop)]
+#[derive(Clone, Copy)]
 pub struct RunAnswer {
     pub outcome: Outcome,
     pub steps: usize,
@@ -39,7 +41,7 @@ pub struct RunAnswer {
 }
 
 // What a run on a valid table comes to: its answer, and the last value of its lowest unsettled variable.
-#[derive(Drop)]
+#[derive(Clone, Copy)]
 struct Ending {
     answer: RunAnswer,
     lowest: u32,

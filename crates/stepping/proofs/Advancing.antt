@@ -46,11 +46,10 @@ unfolding refusal_of advance_returns
 refused_call t number (refusing k) e n = ap (λ m. record { answer = Refused m; table = t }) e
 refused_call t number (steps_to pr rs) e n = absurd (n e)
 
-pub refused : {t : List ℕ} {pr : Pair} {buffer places : List ℕ} {kept' moved number : ℕ} → Surveyed t pr buffer places kept' moved number → (number ≡ 0 → ⊥)
+pub refused : (t : List ℕ) (pr : Pair) (number : ℕ) → number ≡ refusal_of (allowed (capacity_of t) pr (resolve (domains t) pr (table_rows t))) → (number ≡ 0 → ⊥)
     → ◌≡◌ {A = AdvanceReturned} (record { answer = Refused number; table = t }) (advance_call t pr)
 unfolding advance_call
-refused {t} {pr} {number = number} q n =
-    refused_call t number (allowed (capacity_of t) pr (resolve (domains t) pr (table_rows t))) q.result n
+refused t pr number e n = refused_call t number (allowed (capacity_of t) pr (resolve (domains t) pr (table_rows t))) e n
 
 pub planned-zero : {t : List ℕ} {pr : Pair} {buffer places : List ℕ} {kept' moved number : ℕ} → Surveyed t pr buffer places kept' moved number → number ≡ 0
     → Surveyed t pr buffer places kept' moved 0

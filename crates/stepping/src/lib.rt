@@ -1,4 +1,6 @@
 // One step on a table that the caller lends: it looks at every conclusion first, then writes, whole or not at all.
+#![tactic(auto)]
+
 ghost use Rattle.std.specs.Prelude.{◌≡◌, true, cond, ℕ, ◌+◌, ◌*◌, ◌<◌, ◌≤◌, length, get_or, eqb, ltb};
 ghost use Rattle.wcsp.specs.Resolve.{MayResolve};
 ghost use Rattle.clause.specs.Packed.{FitsBlocks, signs_of};
@@ -15,21 +17,21 @@ use rows::Found;
 use table::Shape;
 
 // A step made, with the number of rows after it; or the number of a refusal.
-#[derive(Drop)]
+#[derive(Clone, Copy)]
 pub enum Advanced {
     Made(usize),
     Refused(u32),
 }
 
 // What the look at the conclusions finds: how many have no row yet, and whether a weight would pass the limit.
-#[derive(Drop)]
+#[derive(Clone, Copy)]
 struct Sight {
     pub fresh: usize,
     pub heavy: bool,
 }
 
 // The look before a step: how many conclusions count, the weight that each gets, and the refusal's number, 0 for none.
-#[derive(Drop)]
+#[derive(Clone, Copy)]
 struct Plan {
     pub kept: usize,
     pub moved: u64,
@@ -206,6 +208,7 @@ fn survey(
 }
 
 // The step on rows i and j of a valid table, a permitted pair on v.
+#[tactic(auto, using(crate::proofs::Advancing::refused))]
 pub fn advance(t: &mut [u32], shape: Shape, v: u32, i: usize, j: usize) -> Advanced
     requires { (valid_table t.old ≡ true) × (shape ≡ shape_of t.old) × MayResolve (domains t.old) (table_rows t.old) (record { variable = v; first = i; second = j }) }
     ensures { record { answer = result; table = t.new } ≡ advance_call t.old (record { variable = v; first = i; second = j }) }

@@ -1,0 +1,79 @@
+-- `survey` meets its contract: the callees' answers are all that `Seen` asks, and the number is that of the finished step.
+use native.Mathlib.Omega.{arith}
+use Rattle.stepping.proofs.Surveying.{Bounds, bounds, premise_below, full-packed, Seen, seen, surveyed}
+use Rattle.stepping.proofs.survey.Goals as goal
+use Rattle.stepping.proofs.survey.Goals.{After-look-sight, Start}
+
+limits : (s : Start) → Bounds s.args.t.now s.args.shape s.args.v s.args.i s.args.j
+limits s = let g = s.args in bounds g.t.now s.requires.0 g.shape s.requires.1 g.v g.i g.j s.requires.2
+
+pub overflow_add-base : goal.overflow_add-base
+overflow_add-base c = let b = limits (goal.at.overflow_add-base c).Start in omega arith
+
+pub weight_of-first-requires : goal.weight_of-first-requires
+weight_of-first-requires c = let b = limits (goal.at.weight_of-first-requires c).Start in omega arith
+
+pub weight_of-second-requires : goal.weight_of-second-requires
+weight_of-second-requires c = let b = limits (goal.at.weight_of-second-requires c).Start in omega arith
+
+pub clause_of-requires : goal.clause_of-requires
+clause_of-requires c = let b = limits (goal.at.clause_of-requires c).Start in omega arith
+
+pub clause_of-requires-2 : goal.clause_of-requires-2
+clause_of-requires-2 c = let b = limits (goal.at.clause_of-requires-2 c).Start in omega arith
+
+pub conclude-kept-requires : goal.conclude-kept-requires
+conclude-kept-requires c =
+    let g = c.args in
+    let b = limits (goal.at.conclude-kept-requires c).Start in
+    let x = c.clause_of.ensures in
+    let y = c.clause_of-2.ensures in (
+      x.1,
+      y.1,
+      full-packed g.t.now c.requires.0 g.shape c.requires.1,
+      premise_below g.t.now c.requires.0 g.shape c.requires.1 g.i (omega (arith, b)) _ x.0,
+      premise_below g.t.now c.requires.0 g.shape c.requires.1 g.j (omega (arith, b)) _ y.0,
+      b.known,
+      c.requires.3,
+    )
+
+pub look-sight-requires : goal.look-sight-requires
+look-sight-requires c =
+    let found = c.conclude-kept.ensures in
+    let first = c.weight_of-first.ensures.1 in
+    let b = limits (goal.at.look-sight-requires c).Start in
+    (b.room, found.1, omega (arith, first, c.lesser-moved.ensures), found.2, c.requires.4)
+
+-- all that is known when the look is over
+known : (l : After-look-sight)
+    → Seen l.args.t.now
+    (record { variable = l.args.v; first = l.args.i; second = l.args.j })
+    l.conclude-kept.new.buffer l.look-sight.new.places l.conclude-kept.result
+    l.weight_of-first.result l.weight_of-second.result l.lesser-moved.result l.look-sight.result.fresh l.look-sight.result.heavy
+known l =
+    let looked = l.look-sight.ensures in
+    let g = l.args in
+    seen g.t.now l.requires.0 g.v g.i g.j l.requires.2 g.shape l.requires.1 _ _ _ _ _ _ _ _ _ _
+    l.weight_of-first.ensures.0 l.weight_of-second.ensures.0 l.lesser-moved.ensures
+    l.clause_of.ensures.0 l.clause_of-2.ensures.0
+    l.conclude-kept.ensures.0 l.conclude-kept.ensures.1 l.conclude-kept.ensures.2
+    looked.0 looked.1 looked.2
+
+pub overflow_sub-left : goal.overflow_sub-left
+overflow_sub-left c = let b = limits (goal.at.overflow_sub-left c).Start in omega (arith, c.used.ensures.1)
+
+pub overflow_sub-left-2 : goal.overflow_sub-left-2
+overflow_sub-left-2 c = let b = limits (goal.at.overflow_sub-left-2 c).Start in omega (arith, c.used.ensures.1, c.used-2.ensures.1)
+
+pub room-requires : goal.room-requires
+room-requires c = let b = limits (goal.at.room-requires c).Start in omega arith
+
+pub refusal_of-requires : goal.refusal_of-requires
+refusal_of-requires c =
+    let b = limits (goal.at.refusal_of-requires c).Start in
+    omega (arith, c.look-sight.ensures.3, c.conclude-kept.ensures.1)
+
+pub returns : goal.returns
+returns c =
+    surveyed c.args.t.now c.requires.0 (known (goal.at.returns c).After-look-sight) c.args.shape c.requires.1 _ _ _ _
+    c.used.ensures.0 c.used-2.ensures.0 c.room.ensures.0 c.refusal_of.ensures
