@@ -1,7 +1,7 @@
 -- What each way through the code answers: by phase, by ending, by what came to its end.
 use Prim.Native.Nat.{ℕ, zero, suc, ◌≤◌, ◌<◌}
 use native.Mathlib.Omega.{arith}
-use mathlib.Core.Path.{◌≡◌, ap, ◌∙◌}
+use mathlib.Core.Path.{◌≡◌, refl, ap, ◌∙◌}
 use mathlib.Core.Bool.{Bool, true, false}
 use mathlib.Core.List.{List}
 use lib.ListN.{length, take, replicate}
@@ -73,6 +73,9 @@ module _ (f : Figures) (n : ℕ) (e : n ≡ sheets_of f) where
 
   pub counts_last : most_sheets ≤ n → record { phase = Phase.Over; figures = f } ≡ behind_sheet f
   counts_last h = rw (← e, le-ltb n most_sheets h)
+
+pub goes_on : (f g : Figures) → f ≡ g → sheets_of f < most_sheets → record { phase = Phase.Length 0; figures = f } ≡ behind_sheet g
+goes_on f g e h = counts_on f (sheets_of f) refl h ∙ ap behind_sheet e
 
 module _ (f : Figures) (phase : Phase) (body : List ℕ) (found : Found) where
   pub after_nothing : found ≡ Found.Nothing → record { phase = phase; figures = f } ≡ after_found f phase body found

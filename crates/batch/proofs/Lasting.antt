@@ -16,7 +16,6 @@ use Rattle.planning.specs.declared.Solved.{Solved}
 use Rattle.planning.specs.Solving.{solved_of, refused_solved}
 use Rattle.cutting.specs.declared.Phase.{Phase}
 use Rattle.cutting.specs.Cutting.{longest_sheet, Cut, byte_cut, takes_byte}
-use Rattle.cutting.specs.Cutting as cutting
 use Rattle.cutting.proofs.Turns.{length_word, Turn, length_on, length_none, length_long, length_sheet, body_on, body_end, passing_on, passing_end, turn}
 use Rattle.cutting.proofs.Phases.{length_taken, body_taken, passing_taken, over_taken}
 use Rattle.figures.specs.declared.Figures.{Figures}

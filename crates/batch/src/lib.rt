@@ -1,4 +1,6 @@
 // A season's sheets planned one after the other as their bytes come, in whatever pieces: every decision that the program makes on them.
+#![tactic(auto)]
+
 ghost use Rattle.std.specs.Prelude.{◌≡◌, true, ◌≤◌, ◌<◌, min, length, take};
 ghost use Rattle.fields.specs.Limits.{greatest_allowed};
 ghost use Rattle.cutting.specs.Cutting.{wanted_in};
@@ -13,14 +15,14 @@ use figures::Figures;
 use planning::Ending;
 
 // How far a season has come: the phase of its reading, and the figures of its sheets so far.
-#[derive(Drop)]
+#[derive(Clone, Copy)]
 pub struct Season {
     pub phase: Phase,
     pub figures: Figures,
 }
 
 // The line of the figures: so many bytes of the buffer.
-#[derive(Drop)]
+#[derive(Clone, Copy)]
 pub struct Line {
     pub bytes: [u8; 512],
     pub length: usize,
@@ -75,6 +77,7 @@ fn column(ending: Ending) -> usize
 }
 
 // One sheet counted: the next length follows, or nothing after the last.
+#[tactic(auto, using(crate::proofs::Answers::goes_on))]
 fn count(figures: Figures, column: usize, cost: u64) -> Season
     requires figures_value { (takes_sheet figures ≡ true) × (column < column_count) }
     requires cost_le_greatest_allowed { column ≡ planned_column → cost ≤ greatest_allowed }

@@ -29,6 +29,8 @@ use Rattle.certifying.specs.Certifiable.{CertifiablePlan, Certifiable}
 
 -- values below sizes are below eight
 below_eight : (ds p : List ℕ) → EachSize ds → InRange ds p → Each (λ a. a < max_values) p
+below_eight [] (v ∷ p) e x4 = elim x4 [ ]
+below_eight (d ∷ ds) [] e x4 = elim x4 [ ]
 below_eight [] [] e nil = nil_each
 below_eight (d ∷ ds) (v ∷ p) (cons_each (low, high) e) (cons h r) = let small : v < max_values = omega arith in cons_each small (below_eight ds p e r)
 

@@ -1,4 +1,6 @@
 // A sheet planned with a certificate: from its bytes to the text that is printed and the certificate's bytes.
+#![tactic(auto)]
+
 ghost use Rattle.std.specs.Prelude.{◌≡◌, ◌+◌, ◌*◌, ◌≤◌, length, get_or, take};
 ghost use Rattle.words.specs.Layout.{payload_of};
 ghost use Rattle.littleendian.specs.Words.{words_in, bytes_of};
@@ -15,7 +17,7 @@ use verifying::WORK_WORDS;
 const MOST_STEPS: usize = 200000;
 
 // What is written: so many bytes of the text, and so many of the certificate, none where there is no plan.
-#[derive(Drop)]
+#[derive(Clone, Copy)]
 pub struct Certified {
     pub text: [u8; 1024],
     pub length: usize,

@@ -25,13 +25,14 @@ module _ (table : List ℕ) (steps bound k : ℕ) (target : List ℕ)
   e : k ≡ (plan_call table (replicate max_variables 0)).number
   e = ap (λ r. r.number) called
 
-  pub finished_refused : (s : Solved) → (k ≡ 0 → ⊥) → s ≡ refused_solved k → s ≡ finished_solved table steps bound
-  unfolding finished_solved
-  finished_refused s n f = rw (← e, ne_eqb k 0 n) f
-
   pub finished_planned : k ≡ 0 → planned_solved target steps bound ≡ finished_solved table steps bound
   unfolding finished_solved
   finished_planned z = let f : target ≡ (plan_call table (replicate max_variables 0)).target = ap (λ r. r.target) called in rw (← e, eq-eqb k 0 z, f)
+
+pub finished_refused : (table : List ℕ) (steps bound : ℕ) → ((plan_call table (replicate max_variables 0)).number ≡ 0 → ⊥)
+    → finished_solved table steps bound ≡ refused_solved (plan_call table (replicate max_variables 0)).number
+unfolding finished_solved
+finished_refused table steps bound n = rw (ne_eqb (plan_call table (replicate max_variables 0)).number 0 n)
 
 module _ (table : List ℕ) (steps bound : ℕ) (o : Outcome) (s : Solved) where
   pub ended_done : o ≡ Outcome.Done → s ≡ finished_solved table steps bound → s ≡ ended_solved table steps bound o

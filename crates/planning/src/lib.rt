@@ -1,4 +1,6 @@
 // A sheet planned: the value that it comes to, in lent buffers of any length, and for bytes in the program's own.
+#![tactic(auto)]
+
 ghost use Rattle.std.specs.Prelude.{◌≡◌};
 ghost use Rattle.planning.specs.Solving.{refused_solved, stopped_solved, finished_solved, ended_solved, solve_table, solve_instance, solve_call, solve_bytes, solved_of};
 
@@ -14,7 +16,7 @@ pub const TABLE_BUFFER: usize = 15998;
 pub const STEP_LIMIT: usize = 16000;
 
 // How planning a sheet ended: the number of a refusal, a plan, the limit, or a table that is full.
-#[derive(Drop)]
+#[derive(Clone, Copy)]
 pub enum Ending {
     Refused(u32),
     Planned,
@@ -23,7 +25,7 @@ pub enum Ending {
 }
 
 // What planning a sheet came to: the run's steps and bound, and the plan, whose cost the bound then is.
-#[derive(Drop)]
+#[derive(Clone, Copy)]
 pub struct Solved {
     pub ending: Ending,
     pub steps: usize,
@@ -51,6 +53,7 @@ fn refused(k: u32) -> Solved
 }
 
 // A finished run: the plan call's number decides.
+#[tactic(auto, using(crate::proofs::Solving::finished_refused))]
 fn finished(table: &[u32], steps: usize, bound: u64) -> Solved
     ensures { result ≡ finished_solved table.now steps bound }
 {
@@ -126,6 +129,7 @@ pub fn solve_in(
 }
 
 // A sheet's bytes planned in lent buffers. The length is judged before a word is read.
+#[tactic(auto, using(crate::proofs::Solving::bytes_long, crate::proofs::Solving::bytes_odd))]
 pub fn solve_bytes(
     bytes: &[u8],
     limit: usize,

@@ -1,4 +1,6 @@
 // The program's work on slices: from a sheet's bytes to the text that is printed.
+#![tactic(auto)]
+
 ghost use Rattle.std.specs.Prelude.{◌≡◌, ◌*◌, ◌≤◌, length, take};
 ghost use Rattle.text.specs.Putting.{Put};
 ghost use Rattle.littleendian.specs.Words.{words_in};

@@ -10,6 +10,7 @@ use Rattle.wcsp.specs.Clause.{InRange}
 use Rattle.wcsp.proofs.Lists.{along_length}
 use Rattle.words.specs.Layout.{value_in}
 use Rattle.fields.specs.declared.Answer.{Answer}
+use Rattle.fields.specs.Limits.{max_variables}
 use Rattle.sheet.specs.Sheet.{sheet_fault, sheet_sizes}
 use Rattle.littleendian.specs.Words.{words_in, word_at}
 use Rattle.making.specs.Made.{made_words}
@@ -72,10 +73,6 @@ module _ (ws : List ℕ) (n cost : ℕ) (stated : Claim.Stated n cost ≡ claim_
           ap (λ c. c.answer) called ∙ rw (behind ws n, plan_is, f, e, checked_claim inst ws h)
 
       module _ (sheet out after : List ℕ) (r : ℕ) where
-        pub failed_put : (answer.number ≡ 0 → ⊥) → Put out 0 (refused_line answer.number) after r
-            → Put out 0 (answer_text sheet ws (checked_words inst ws)) after r
-        failed_put m p = rw (refused_text sheet ws (checked_words inst ws) answer.number (ap (λ a. a.number) (sym answer_is)) m) p
-
         pub accepted_put : answer.number ≡ 0 → Put out 0 (accepted_text sheet (take n plan) answer.steps cost) after r
             → Put out 0 (answer_text sheet ws (checked_words inst ws)) after r
         accepted_put z p =
@@ -91,6 +88,18 @@ module _ (ws : List ℕ) (n cost : ℕ) (stated : Claim.Stated n cost ≡ claim_
           let within : InRange (sheet_sizes sheet) (take n plan) = rw (made, m.sizes) at best.in_range in
           let many = along_length within in
           range_holds sheet (take n plan) fine (rw (take_all (length (sheet_sizes sheet)) (take n plan) (omega (arith, many))) within)
+
+-- the same, by what the check returns
+module _ (inst ws plan : List ℕ) (n cost : ℕ) where
+  abbrev pub check_read : CheckReturned
+  check_read = check_call inst (take (length ws - (n + 3)) (drop (n + 3) ws)) (take n plan) cost (replicate work_words 0)
+
+  pub failed_text : (sheet : List ℕ) → claim_of ws ≡ Claim.Stated n cost → plan ≡ stated_plan ws ++ drop (stated_variables ws) (replicate max_variables 0)
+      → (check_read.answer.number ≡ 0 → ⊥)
+      → answer_text sheet ws (checked_words inst ws) ≡ refused_line check_read.answer.number
+  failed_text sheet e f m =
+      refused_text sheet ws (checked_words inst ws) check_read.answer.number
+      (ap (λ a. a.number) (sym (answer_is ws n cost (sym e) (replicate max_variables 0) plan f inst check_read.table check_read.answer refl))) m
 
 -- ---- the certificate's words
 

@@ -1,4 +1,6 @@
 // A certificate verified: from a sheet's bytes and the certificate's to the text that is printed. Nothing here plans.
+#![tactic(auto)]
+
 ghost use Rattle.std.specs.Prelude.{◌≡◌, ◌*◌, ◌≤◌, length, take};
 ghost use Rattle.text.specs.Putting.{Put};
 ghost use Rattle.littleendian.specs.Words.{words_in};
@@ -42,6 +44,7 @@ fn put_accepted(sheet: &[u32], plan: &[u8], steps: usize, cost: u64, out: &mut [
 }
 
 // The text of a certificate's words, checked against the instance made from the sheet.
+#[tactic(auto, using(crate::proofs::Stages::failed_text))]
 fn put_checked(sheet: &[u32], instance: &[u32], certificate: &[u32], out: &mut [u8]) -> usize
     requires { (sheet_fault sheet.now ≡ 0) × (instance.now ≡ made_words sheet.now) × (832 ≤ length out.old) }
     ensures { Put out.old 0 (answer_text sheet.now certificate.now (checked_words instance.now certificate.now)) out.new result × (result ≤ 832) }
