@@ -1,4 +1,6 @@
 // The answer slice of an exported call: its fields are written to the front, as far as the slice goes.
+#![tactic(auto)]
+
 ghost use Rattle.std.specs.Prelude.{◌≡◌, [], ◌∷◌};
 ghost use Rattle.answers.specs.Noted.{noted};
 

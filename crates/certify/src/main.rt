@@ -1,32 +1,53 @@
 // Reads a sheet from standard input, writes its certificate, where it is planned, to descriptor 3, and then the text to standard output.
+#![tactic(auto)]
+
 ghost use Rattle.std.specs.Prelude.{◌*◌, ◌≤◌, length};
 ghost use Rattle.verifying.specs.Verified.{certificate_room};
 
+use std::fs::OpenOptions;
+use std::io::{Print, Result, Write};
+
+// Writes the bytes to descriptor 3, which is opened anew by its name. Where there are none it is not opened, so it need not be there.
+fn put_certificate(rt: HostRuntime, bytes: &[u8]) -> Result<()> {
+    if bytes.len() == 0 {
+        return Ok(());
+    }
+    let mut how = OpenOptions::new();
+    how.append(true);
+    how.open(&rt, "/dev/fd/3")?.write_all(bytes)
+}
+
 // Reads a byte more than the longest sheet, so that a longer one shows. Without a plan there is no byte for descriptor 3, and nothing is written there.
-fn answer(certificate: &mut [u8])
+fn answer(rt: HostRuntime, certificate: &mut [u8])
     requires { 4 * certificate_room ≤ length certificate.old }
 {
     let mut bytes = [0u8; 64001];
-    let input = reading::read_all(&mut bytes);
+    let input = reading::read_all(rt.stdin(), &mut bytes);
     if input.failed {
-        io::write_all(2, b"certify: the sheet cannot be read\n");
+        let _ = rt
+            .stderr()
+            .write_all(b"certify: the sheet cannot be read\n");
         return;
     }
     let got = input.length;
     let certified = certifying::certify(&bytes[..got], certificate);
     let long = certified.certificate;
-    if !io::write_all(3, &certificate[..long]) {
-        io::write_all(2, b"certify: the certificate cannot be written\n");
+    if put_certificate(rt, &certificate[..long]).is_err() {
+        let _ = rt
+            .stderr()
+            .write_all(b"certify: the certificate cannot be written\n");
         return;
     }
     let text = certified.text;
     let length = certified.length;
-    if !io::write_all(1, &text[..length]) {
-        io::write_all(2, b"certify: the plan cannot be written\n");
+    if rt.write_all(&text[..length]).is_err() {
+        let _ = rt
+            .stderr()
+            .write_all(b"certify: the plan cannot be written\n");
     }
 }
 
-fn main() {
+fn main(rt: HostRuntime) {
     let mut certificate = [0u8; 800060];
-    answer(&mut certificate);
+    answer(rt, &mut certificate);
 }

@@ -1,10 +1,13 @@
 // Reads a word that says what is wanted and the words of a table from standard input, and writes the table in the form wanted to standard output, or the line of a refusal. A byte more than the longest input is read, so that a longer one shows.
+#![tactic(auto)]
+
 ghost use Rattle.std.specs.Prelude.{◌≡◌, ◌*◌, ◌≤◌, length, take};
 ghost use Rattle.words.specs.Layout.{kind_of, payload_of};
 ghost use Rattle.littleendian.specs.Words.{words_in};
 ghost use Rattle.converter.specs.Converted.{most_words, request_fault, converted_in, answer_bytes, table_bytes, converted_bytes};
 
 use fields::Answer;
+use std::io::Print;
 
 // The words of the longest table: 4,096 rows of six words over twelve stations.
 const MOST_WORDS: usize = 24590;
@@ -37,6 +40,7 @@ fn request_fault(bytes: &[u8]) -> u32
 }
 
 // The call that makes the form: six-word rows from five, or five from six.
+#[tactic(auto, using(crate::proofs::Answering::makes_six_lem, crate::proofs::Answering::makes_five_lem))]
 fn convert(form: u32, source: &[u32], target: &mut [u32]) -> Answer
     ensures { record { answer = result; target = target.new } ≡ converted_in form source.now target.old }
 {
@@ -47,6 +51,7 @@ fn convert(form: u32, source: &[u32], target: &mut [u32]) -> Answer
 }
 
 // What is printed of a call's answer: the bytes of the target, or the line of a refusal.
+#[tactic(auto, using(crate::proofs::Answering::refusal_put, crate::proofs::Answering::target_put))]
 fn put_answer(answer: Answer, target: &[u32], out: &mut [u8]) -> usize
     requires { (64 ≤ length out.old) × (4 * length target.now ≤ length out.old) }
     ensures { (take result out.new ≡ answer_bytes (record { answer = answer; target = target.now })) × (result ≤ length out.new) }
@@ -92,17 +97,21 @@ fn convert_bytes(bytes: &[u8], out: &mut [u8]) -> usize
     convert_table(littleendian::word_at(bytes, 0), &bytes[4..], out)
 }
 
-fn main() {
+fn main(rt: HostRuntime) {
     let mut bytes = [0u8; 98365];
-    let input = reading::read_all(&mut bytes);
+    let input = reading::read_all(rt.stdin(), &mut bytes);
     if input.failed {
-        io::write_all(2, b"converter: the table cannot be read\n");
+        let _ = rt
+            .stderr()
+            .write_all(b"converter: the table cannot be read\n");
         return;
     }
     let got = input.length;
     let mut out = [0u8; 98360];
     let length = convert_bytes(&bytes[..got], &mut out);
-    if !io::write_all(1, &out[..length]) {
-        io::write_all(2, b"converter: the table cannot be written\n");
+    if rt.write_all(&out[..length]).is_err() {
+        let _ = rt
+            .stderr()
+            .write_all(b"converter: the table cannot be written\n");
     }
 }

@@ -1,4 +1,6 @@
 // The public calls for C and Rust: numbers and slices alone cross the boundary. Each returns its number, 0 for success, and writes its other fields to an answer slice.
+#![tactic(auto)]
+
 ghost use Rattle.std.specs.Prelude.{◌≡◌, [], ◌∷◌};
 ghost use Rattle.resolution.specs.Numbers.{outcome_number, outcome_field};
 ghost use Rattle.assignment.specs.Calls.{plan_call};

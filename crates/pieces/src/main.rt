@@ -1,11 +1,14 @@
 // A program for the tests: its input is a plain word, the length of pieces, and a season, which it feeds in pieces of that length. It prints the line
 // of the season's figures.
+#![tactic(auto)]
+
 ghost use Rattle.std.specs.Prelude.{◌*◌, ◌≤◌, ◌≡◌, length};
 ghost use Rattle.cutting.specs.Cutting.{longest_sheet};
 ghost use Rattle.batch.specs.Season.{season_line};
 ghost use Rattle.batch.specs.Feeding.{finished_line};
 
 use batch::Season;
+use std::io::Print;
 
 // The most bytes that are read: the word and a season of 131,072.
 const LONGEST: usize = 131076;
@@ -26,23 +29,27 @@ fn fed_in_pieces(bytes: &[u8], long: usize, body: &mut [u8]) -> Season
     season
 }
 
-fn main() {
+fn main(rt: HostRuntime) {
     let mut bytes = [0u8; LONGEST];
     let mut body = [0u8; cutting::SHEET_BYTES];
-    let input = reading::read_all(&mut bytes);
+    let input = reading::read_all(rt.stdin(), &mut bytes);
     let got = input.length;
     if input.failed || got < 4 {
-        io::write_all(2, b"pieces: the length of pieces cannot be read\n");
+        let _ = rt
+            .stderr()
+            .write_all(b"pieces: the length of pieces cannot be read\n");
         return;
     }
     let long = littleendian::word_at(&bytes, 0) as usize;
     if long == 0 {
-        io::write_all(2, b"pieces: a piece has at least one byte\n");
+        let _ = rt
+            .stderr()
+            .write_all(b"pieces: a piece has at least one byte\n");
         return;
     }
     let season = fed_in_pieces(&bytes[4..got], long, &mut body);
     let line = batch::finish(season);
     let text = line.bytes;
     let length = line.length;
-    io::write_all(1, &text[..length]);
+    let _ = rt.write_all(&text[..length]);
 }

@@ -1,4 +1,6 @@
 // For the tests: the nearest whole metre of any number taken as a squared distance. The public calls come only to sums of two squares.
+#![tactic(auto)]
+
 ghost use Rattle.std.specs.Prelude.{◌≡◌};
 ghost use Rattle.distance.specs.Metres.{metres};
 
