@@ -32,7 +32,7 @@ class Figures(NamedTuple):
 
 
 def proved_library():
-    """The archive with the proved library, which `rt staticlib gotalhim` builds; None where there is none."""
+    """The archive with the proved library, which `tools/build gotalhim` builds; None where there is none."""
     archive = Path(os.environ.get("GOTALHIM_LIBRARY", ROOT / "target" / "staticlib" / "libgotalhim.a")).resolve()
     return archive if archive.exists() else None
 

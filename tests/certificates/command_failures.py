@@ -117,7 +117,7 @@ def made_repository(folder, program, toolchain=building.TOOLCHAIN):
     """A repository of three crates whose programs for certificates are this one, and a search path with this toolchain."""
     made, path = building.repository(folder, f"#!/bin/sh\n{program}\n", toolchain)
     shutil.copy(ROOT / "verify", made)
-    (made / "crates.txt").write_text(building.CRATES + "certify: table io libc\nverify: table io libc\n")
+    (made / "crates.txt").write_text(building.CRATES + "certify: table\nverify: table\n")
     return made, path
 
 
@@ -174,7 +174,7 @@ def check_building(checks, folder):
         for what, said in (("first", counted + answer), ("second", answer)):
             checks.same(f"the {what} run of {marked}", ran(arguments, command=made / name, path=path), (2, b"REFUSED 99\n", said))
             checks.same(f"the program of {marked}", (made / "target" / "called").read_text().splitlines()[-1], crate)
-        checks.same(f"the log of {marked}", (made / "target" / f"{marked}.log").read_text().count("proved ("), 3)
+        checks.same(f"the log of {marked}", (made / "target" / f"{marked}.log").read_text().count("logic=proved "), 3)
     made, path = made_repository(folder / "broken", "true", building.FAILING)
     said = "verify: proving and building the program; the first time takes some minutes\nverify: 1 of 3 crates proved\n"
     checks.same("a failing toolchain", ran_verify([field, folder / "certificate"], command=made / "verify", path=path),

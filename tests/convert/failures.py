@@ -80,7 +80,7 @@ def made_repository(folder, program, toolchain=building.TOOLCHAIN):
     """A repository of three crates whose converter is this program, and a search path with this toolchain."""
     made, path = building.repository(folder, program, toolchain)
     shutil.copy(ROOT / "convert", made)
-    (made / "crates.txt").write_text(building.CRATES + "converter: table io libc\n")
+    (made / "crates.txt").write_text(building.CRATES + "converter: table\n")
     return made / "convert", path
 
 

@@ -14,19 +14,29 @@ CRATES = """# two that the programs take, and one that they do not
 words:           # the first
 table: words
 beside: words
-planner: table io libc   # a program
-season: table io libc    # another
+planner: table   # a program
+season: table    # another
 """
-# It reads all that it is given, which must not be the file that is to be planned.
+# The programs that a command is given in place of the true ones.
+PROGRAMS = ["planner", "season", "converter", "verify", "certify"]
+# It is called in a crate's folder. It reads all that it is given, which must not be the file that is to be planned, and what the program that it
+# has built writes is no answer.
 TOOLCHAIN = """#!/bin/sh
-cat >/dev/null
-echo 'fn words::read: proved'
-for crate in words table "$2"; do echo "rt: $crate proved (6 s)"; done
-mkdir -p target/bin
-cp program "target/bin/$2"
-echo 'rt: ok, 3 crates proved'
+[ "$*" = run ] || exit 9
+[ "$(cat)" = "the crate's own input" ] || exit 8
+crate=${PWD##*/}
+{
+    for proved in words table "$crate"; do
+        echo "fn $proved::read: proved"
+        echo 'logic=proved functions=1 sum=0'
+    done
+    echo "rt: running out/$crate"
+} >&2
+mkdir -p out
+cp ../../program "out/$crate"
+echo 'PLAN of the crate'
 """
-FAILING = "#!/bin/sh\necho 'rt: words proved (6 s)'\necho 'rt: table: not proved' >&2\nexit 1\n"
+FAILING = "#!/bin/sh\n{ echo 'logic=proved functions=1 sum=0'; echo 'logic=not-proved functions=1'; } >&2\nexit 1\n"
 
 
 class Command(NamedTuple):
@@ -65,7 +75,9 @@ SEASON = Command("season", EXAMPLES / "three.season", "14 13 12 11 10 9 8 7 6 5 
 def repository(folder, program, toolchain=TOOLCHAIN):
     """A repository of three crates and two programs, which are built as this one, and a search path with this toolchain."""
     folder.mkdir()
-    (folder / "crates").mkdir()
+    for crate in PROGRAMS:
+        (folder / "crates" / crate).mkdir(parents=True)
+        (folder / "crates" / crate / "stdin").write_text("the crate's own input")
     (folder / "crates.txt").write_text(CRATES)
     for command in ("plan", "season"):
         shutil.copy(ROOT / command, folder)
@@ -105,7 +117,7 @@ def check_failures(checks, made, command):
                 (1, b"", f"{command.first()}{command.name}: 1 of 3 crates proved\n"
                  f"{command.name}: the program could not be proved and built; see target/{command.name}.log\n"))
     checks.same("the log of a failing toolchain", (folder / "target" / f"{command.name}.log").read_text(),
-                "rt: words proved (6 s)\nrt: table: not proved\n")
+                "logic=proved functions=1 sum=0\nlogic=not-proved functions=1\n")
     folder, path = repository(made / "without", command.program(), None)
     checks.same("no toolchain", command.ran(folder, path),
                 (1, b"", f"{command.name}: the Rattle toolchain's command rt is not installed\n"))

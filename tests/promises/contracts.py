@@ -1,7 +1,8 @@
 """What PROMISES.md says of contracts and of demand 3's records, held to the sources.
 
-A function cited for its contract has one. A public call, whose clause has a name, asks nothing, and every exported call is one. The fields that
-the document cites of demand 3's records are fields, and it cites all of them.
+A function cited for its contract has one. A public call, of which a clause is named as one of a call's, asks nothing, and every exported call is
+one. A call for C, in a crate NAME_c, has the parameters and the clauses of the call of its name in NAME. The fields that the document cites of
+demand 3's records are fields, and it cites all of them.
 """
 
 import re
@@ -9,7 +10,8 @@ import re
 from sources import FUNCTION, ROOT
 
 CITED = re.compile(r"contracts? of ((?:`[\w:]+`(?: \([^)]*\))?(?:, and |, | and )?)+)")
-NAMED = re.compile(r"ensures \w+ \{")
+# What a call returned, what a driver upheld; the clauses of inner functions are named where there are two of a kind, and otherwise.
+NAMED = re.compile(r"ensures (?:returned|driven|upheld) \{")
 RECORDS = re.compile(r"^pub record (?:Kept|Upheld|UpheldFive) .*?(?=^\S)", re.M | re.S)
 HEADING = "| sentence | field of `Upheld`, of its `kept`, or of `UpheldFive` |"
 
@@ -64,6 +66,17 @@ def call_faults(functions):
                 yield f"{name} is exported and its contract has no name"
 
 
+def thin_faults(functions):
+    """Calls for C that differ from the library's, and those that are missing."""
+    thin = {name for name in functions if name.split("::")[0].endswith("_c")}
+    for name in sorted(thin):
+        if functions[name] != functions.get(name.replace("_c::", "::", 1)):
+            yield f"{name} has another contract than the library's call"
+    for name, all_of in functions.items():
+        if any('extern "C"' in contract[0] for contract in all_of if contract) and name not in thin and name.replace("::", "_c::", 1) not in thin:
+            yield f"{name} is exported, and no crate of calls for C has it"
+
+
 def field_faults(text):
     records = RECORDS.findall((ROOT / "crates/calls/specs/Demand.antt").read_text())
     fields = set(re.findall(r"^  pub (\w+) :", "".join(records), re.M))
@@ -76,9 +89,12 @@ def field_faults(text):
 
 def cited_faults(text):
     functions = contracts()
-    faults = [*contract_faults(text, functions), *call_faults(functions), *field_faults(text)]
+    faults = [*contract_faults(text, functions), *call_faults(functions), *thin_faults(functions), *field_faults(text)]
     if not list(contract_faults("contract of `planner::main`", functions)):
         faults.append("a function without a contract is not told")
+    for name, contract in (("gotalhim_c::gotalhim_cost", []), ("roots::roots_cost", ['pub extern "C" fn roots_cost() -> u64'])):
+        if len(list(thin_faults({**functions, name: [contract]}))) != 1:
+            faults.append(f"{name} differs, which is not told")
     if len(list(field_faults(text.replace("`conserved`", "`conserve`")))) != 2:
         faults.append("a field that is misspelt is not told")
     return faults

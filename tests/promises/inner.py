@@ -6,7 +6,7 @@ from sources import ROOT, names_in_lines
 
 # The first words of a file that serves inner contracts alone, and the line of another file behind which what it has does so.
 INNER, BEHIND = "-- Inner:", "-- ---- for inner contracts"
-IMPORT = re.compile(r"^use Rattle·(\w+?)(?:·specs)?\.specs\.(\w+)\.\{([^}]*)\}", re.M)
+IMPORT = re.compile(r"^use Rattle\.(\w+)\.specs\.(\w+)\.\{([^}]*)\}", re.M)
 
 
 def name_of(path):
@@ -48,9 +48,20 @@ def edit_faults(edit, crate):
             text = text.replace(old, rest[1:], 1)
 
 
+def search_faults(texts):
+    """That the search above finds imports, and tells a definition for readers that takes an inner one: one is put on top of each other file."""
+    if not any(IMPORT.search(text) for text in texts.values()):
+        yield "no import of a definition is found"
+    for (crate, file), text in sorted(texts.items()):
+        for taken in sorted(names_in_lines(parts_of(text)[1].split("\n")))[:1]:
+            spoiled = {name: f"use Rattle.{crate}.specs.{file}.{{{taken}}}\nmade = {taken}\n" for name in texts if name != (crate, file)}
+            if len(list(inner_faults({**spoiled, (crate, file): text}))) != len(spoiled):
+                yield f"a definition for readers that rests on {taken} of {crate} is not told"
+
+
 def source_faults():
     specs = {name_of(path): path.read_text() for path in ROOT.glob("crates/*/specs/*.antt")}
-    faults = list(inner_faults(specs))
+    faults = [*inner_faults(specs), *search_faults(specs)]
     for edit in sorted(ROOT.glob("crates/*/must-fail/*.edit")):
         faults += edit_faults(edit, edit.parents[1])
     return faults

@@ -2,11 +2,11 @@
 
 import re
 
-from sources import all_files, header_names, imported_names, lines_of, names_in_code, names_in_logic
+from sources import all_files, header_names, imported_names, listed_crates, names_in_code, names_in_logic
 
 # Words of the languages and commands, which no file of the repository defines.
-LANGUAGE = {"requires", "ensures", "entry", "exit", "now", "record", "let", "else", "loop", "break", "mut", "self", "&mut",
-            "check", "staticlib", "rt ci"}
+LANGUAGE = {"requires", "ensures", "entry", "exit", "now", "old", "new", "record", "let", "else", "loop", "break", "mut", "self",
+            "&mut", "check", "staticlib", "rt ci"}
 WORD = re.compile(r"[A-Za-z][\w′-]{2,}")
 
 
@@ -16,7 +16,7 @@ class Repository:
         self.folders = {up.as_posix() for path in files for up in path.parents}
         self.paths = {path.as_posix() for path in files} | self.folders
         self.endings = tuple({path.suffix for path in files if path.suffix})
-        self.crates = {line.split(":")[0] for line in lines_of("crates.txt") if line and not line.startswith("#")}
+        self.crates = set(listed_crates())
         self.logic = {path.as_posix(): names_in_logic(path) for path in files if path.suffix == ".antt"}
         self.code = {path.as_posix(): names_in_code(path) for path in files if path.suffix == ".rt"}
         headers = set().union(*(header_names(path) for path in files if path.suffix == ".h"))
@@ -70,7 +70,7 @@ class Repository:
 
     def files_of(self, crate, place):
         """The files that `specs/Name` can mean: of the crate, or of any where none is named."""
-        form = rf"crates/{crate or '[^/]+'}/{re.escape(place)}(/Proof)?\.(antt|rt)"
+        form = rf"crates/{crate or '[^/]+'}/{re.escape(place)}(/(Proof|Invariants|Answers))?\.(antt|rt)"
         return [path for path in [*self.logic, *self.code] if re.fullmatch(form, path)]
 
     def names_under(self, place):

@@ -5,7 +5,7 @@ import re
 from pathlib import Path
 
 ROOT = Path(__file__).resolve().parents[2]
-BUILT = {".git", "target", "__pycache__"}
+BUILT = {".git", "target", "out", "__pycache__"}
 
 # What may stand before the name that a line of a spec or proof defines.
 KEYWORDS = {"pub", "abbrev", "record", "data", "unfoldable", "opaque"}
@@ -32,6 +32,12 @@ def all_files():
 
 def lines_of(path):
     return (ROOT / path).read_text().split("\n")
+
+
+def listed_crates():
+    """Each crate of crates.txt with those that its line names; behind the name of a static library its kind stands."""
+    lines = [line.partition(":") for line in lines_of("crates.txt") if line and not line.startswith("#")]
+    return {name.split()[0]: set(rest.split()) for name, _, rest in lines}
 
 
 def names_in_logic(path):

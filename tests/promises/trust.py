@@ -1,16 +1,10 @@
 """That a verified certificate rests on nothing of the planner: which crates the verifying program's line in crates.txt leads to."""
 
-from sources import lines_of
+from sources import listed_crates
 
 VERIFIES = "verify"
 # The crates that choose steps, rebuild plans or plan sheets, and the claims about them.
 PLANNER = {"hunt", "resolution", "assignment", "completion", "calls", "planning", "printing", "batch", "certifying"}
-
-
-def taken():
-    """Each crate with those that its line names."""
-    lines = [line.partition(":") for line in lines_of("crates.txt") if line and not line.startswith("#")]
-    return {name: set(rest.split()) for name, _, rest in lines}
 
 
 def reached(crate, crates):
@@ -22,7 +16,7 @@ def reached(crate, crates):
 
 
 def trust_faults():
-    crates = taken()
+    crates = listed_crates()
     faults = [f"{name} is of the planner, and {VERIFIES} takes it" for name in sorted(PLANNER & reached(VERIFIES, crates))]
     faults += [f"{name} is no crate" for name in sorted((PLANNER | {VERIFIES}) - crates.keys())]
     if not PLANNER & reached(VERIFIES, {**crates, "checker": crates["checker"] | {"planning"}}):
