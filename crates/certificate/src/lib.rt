@@ -9,25 +9,24 @@ ghost use Rattle.certificate.specs.Certificate.{binding_words, claim_words, stat
 ghost use Rattle.certificate.specs.Claim.{claim_of};
 ghost use Rattle.certificate.specs.Theorems.{Claimable};
 
-use fields::wide;
+use words::kinds::Kind;
 
-// A cost's low word has the 28 bits below this, its high word those from it on.
+/// A cost's low word has the 28 bits below this, its high word those from it on.
 const COST_UNIT: u64 = 268435456;
 
-// What the front of a certificate claims: so many variables and a cost, or nothing, since it has not the form.
+/// What the front of a certificate claims: so many variables and a cost, or nothing, since it has not the form.
 #[derive(Clone, Copy)]
 pub enum Claim {
     Stated(usize, u64),
     Nothing,
 }
 
-// Each word binds the variable of its place.
+/// Each word binds the variable of its place.
 fn binds_in_order(bindings: &[u32]) -> bool
     requires { length bindings.now ≤ max_variables }
     ensures { result ≡ binds_in_order 0 bindings.now }
 {
-    let mut v: usize = 0;
-    while v < bindings.len() {
+    for v in 0..bindings.len() {
         let value = words::payload(bindings[v]) % 256;
         if 8 <= value {
             return false;
@@ -35,12 +34,11 @@ fn binds_in_order(bindings: &[u32]) -> bool
         if bindings[v] != words::binding(v as u32, value) {
             return false;
         }
-        v += 1;
     }
     true
 }
 
-// The claim in front of the words.
+/// The claim in front of the words.
 pub fn read_claim(certificate: &[u32]) -> Claim
     ensures { result ≡ claim_of certificate.now }
 {
@@ -74,19 +72,17 @@ pub fn read_claim(certificate: &[u32]) -> Claim
     )
 }
 
-// The values that words bind, in front of a slice that they fit into, whose rest stays.
+/// The values that words bind, in front of a slice that they fit into, whose rest stays.
 fn copy_values(bindings: &[u32], plan: &mut [u8])
     requires { length bindings.now ≤ length plan.old }
     ensures { plan.new ≡ map value_in bindings.now ++ drop (length bindings.now) plan.old }
 {
-    let mut v = 0;
-    while v < bindings.len() {
+    for v in 0..bindings.len() {
         plan[v] = (words::payload(bindings[v]) % 256) as u8;
-        v += 1;
     }
 }
 
-// The assignment of a certificate that has a claim, in front of a slice that it fits into.
+/// Reads the assignment of a certificate that has a claim, into the front of a slice that it fits into; the rest stays.
 pub fn read_plan(certificate: &[u32], plan: &mut [u8])
     requires { (has_claim certificate.now ≡ true) × (stated_variables certificate.now ≤ length plan.old) }
     ensures { plan.new ≡ stated_plan certificate.now ++ drop (stated_variables certificate.now) plan.old }
@@ -95,29 +91,27 @@ pub fn read_plan(certificate: &[u32], plan: &mut [u8])
     copy_values(&certificate[1..n + 1], plan);
 }
 
-// A binding word for each value, from an index on.
+/// A binding word for each value, from an index on.
 fn write_bindings(target: &mut [u32], at: usize, plan: &[u8])
     requires plan_in_bounds { at + length plan.now ≤ length target.old }
     requires claimable { Claimable plan.now 0 }
     ensures { target.new ≡ sets target.old at (binding_words 0 plan.now) }
 {
-    let mut v: usize = 0;
-    while v < plan.len() {
-        target[at + v] = words::binding(v as u32, wide(plan[v]));
-        v += 1;
+    for v in 0..plan.len() {
+        target[at + v] = words::binding(v as u32, u32::from(plan[v]));
     }
 }
 
-// The claim's words, in front of a slice that they fit into; their number.
+/// Writes the claim's words to the front of a slice that they fit into; their number.
 pub fn write_claim(target: &mut [u32], plan: &[u8], cost: u64) -> usize
     requires plan_in_bounds { length plan.now + 3 ≤ length target.old }
     requires claimable { Claimable plan.now cost }
     ensures { (target.new ≡ sets target.old 0 (claim_words plan.now cost)) × (result ≡ length plan.now + 3) }
 {
     let n = plan.len();
-    target[0] = words::head(n as u32);
+    target[0] = Kind::Head.word(n as u32);
     write_bindings(target, 1, plan);
-    target[n + 1] = words::weight((cost % COST_UNIT) as u32);
-    target[n + 2] = words::high((cost / COST_UNIT) as u32);
+    target[n + 1] = Kind::Weight.word((cost % COST_UNIT) as u32);
+    target[n + 2] = Kind::High.word((cost / COST_UNIT) as u32);
     n + 3
 }

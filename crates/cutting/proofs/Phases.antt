@@ -1,5 +1,5 @@
 -- The phases: which of them take a byte, how many bytes they want, and what a length opens.
-use Prim.Native.Nat.{ℕ, ◌*◌, ◌≤◌, ◌<◌, min}
+use Prim.Native.Nat.{ℕ, ◌*◌, ◌≤◌, ◌<◌}
 use native.Mathlib.Omega.{arith}
 use mathlib.Core.Path.{◌≡◌}
 use mathlib.Core.Bool.{true, false, false≢true}
@@ -9,7 +9,7 @@ use borrow.Author.Tests.{eq-eqb, ne_eqb, lt-ltb, le-ltb, le-leb, lt-leb, ltb-tru
 use Rattle.wcsp.proofs.Lists.{and_left, and_right}
 use Rattle.cutting.specs.declared.Phase.{Phase}
 use Rattle.cutting.specs.declared.Found.{Found}
-use Rattle.cutting.specs.Cutting.{longest_sheet, opened, takes_in, takes_byte, wanted_in}
+use Rattle.cutting.specs.Cutting.{longest_sheet, opened, takes_in, takes_byte}
 
 -- ---- a phase that takes a byte
 
@@ -65,11 +65,6 @@ module _ (phase : Phase) (room : ℕ) (takes : takes_byte phase room ≡ true) w
   pub over_taken : phase ≡ Phase.Over → ⊥
   unfolding takes_in
   over_taken e = false≢true (known Phase.Over e)
-
--- ---- how many bytes a phase wants
-
-pub wants : (phase known : Phase) (most left r : ℕ) → phase ≡ known → left ≡ wanted_in known → r ≡ min left most → r ≡ min (wanted_in phase) most
-wants phase known most left r e l f = rw (e, ← l) f
 
 -- ---- what a length opens
 

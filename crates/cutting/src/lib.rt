@@ -1,48 +1,58 @@
 // A season's bytes cut into sheets, whatever pieces they come in: the phase that the bytes lead to, and what they bring to its end.
 #![tactic(auto)]
 
-ghost use Rattle.std.specs.Prelude.{◌≡◌, List, true, ℕ, ◌-◌, ◌≤◌, ◌<◌, min, length};
+ghost use Rattle.std.specs.Prelude.{◌≡◌, List, true, ◌-◌, ◌≤◌, ◌<◌, ℕ, min, length};
 ghost use Rattle.std.proofs.Math.Seq.{paste};
 ghost use Rattle.cutting.specs.Cutting.{opened, takes_byte, wanted_in};
 ghost use Rattle.cutting.specs.Pieces.{CutsTo, CutsLength, CutsBody, CutsPassing};
 
-use fields::lesser;
-
-// The bytes of a length, the words of the longest sheet that is planned, and its bytes.
+/// The bytes of a length.
 const LENGTH_BYTES: usize = 4;
 
+/// The words of the longest sheet that is planned.
 const LONGEST_SHEET: u32 = 16000;
 
+/// The bytes of the longest sheet that is planned.
 pub const SHEET_BYTES: usize = 64000;
 
-// How far the reading has come: so many bytes of a length; so many of a sheet, and how many it has in all; so many bytes still to pass over; or
-// to the end.
-#[derive(Clone, Copy)]
+/// How far the reading has come.
+#[derive(Clone, Copy, Debug, PartialEq, Eq)]
 pub enum Phase {
+    /// So many bytes of a length.
     Length(usize),
+    /// So many bytes of a sheet, and how many it has in all.
     Body(usize, usize),
+    /// So many bytes are still to pass over.
     Passing(u64),
+    /// No byte is wanted any more.
     Over,
 }
 
-// What came to its end: nothing, a length, a sheet of so many bytes, or a sheet that was passed over.
-#[derive(Clone, Copy)]
+/// What bytes brought to its end.
+#[derive(Clone, Copy, Debug, PartialEq, Eq)]
 pub enum Found {
+    /// Nothing came to its end.
     Nothing,
+    /// A length.
     Length,
+    /// A sheet of so many bytes.
     Sheet(usize),
+    /// A sheet that was passed over.
     PassedOver,
 }
 
-// The phase behind some bytes, what they brought to its end, and how many they are.
-#[derive(Clone, Copy)]
+/// What taking bytes came to.
+#[derive(Clone, Copy, Debug, PartialEq, Eq)]
 pub struct Taken {
+    /// The phase behind them.
     pub phase: Phase,
+    /// What they brought to its end.
     pub found: Found,
+    /// How many they are.
     pub count: usize,
 }
 
-// Whether a phase takes a byte, with a buffer of such a length.
+/// Whether a phase takes a byte, with a buffer of such a length.
 pub fn takes(phase: Phase, room: usize) -> bool
     ensures { result ≡ takes_byte phase room }
 {
@@ -57,39 +67,31 @@ pub fn takes(phase: Phase, room: usize) -> bool
     }
 }
 
-// How many bytes there are to the end of the phase, at most so many: reading no more, nothing behind the last sheet is read.
+/// How many bytes there are to the end of the phase, at most so many: reading no more, nothing behind the last sheet is read.
+#[tactic(auto, unfolding(crate::specs::Cutting::wanted_in))]
 pub fn wanted(phase: Phase, most: usize) -> usize
     ensures { result ≡ min (wanted_in phase) most }
 {
     match phase {
-        Phase::Length(at) => lesser(left_to(at, LENGTH_BYTES), most as u64) as usize,
-        Phase::Body(at, end) => lesser(left_to(at, end), most as u64) as usize,
-        Phase::Passing(left) => lesser(left, most as u64) as usize,
+        Phase::Length(at) => LENGTH_BYTES.saturating_sub(at).min(most),
+        Phase::Body(at, end) => end.saturating_sub(at).min(most),
+        Phase::Passing(left) => left.min(most as u64) as usize,
         Phase::Over => 0,
     }
 }
 
-// How many are left to an end; none behind it.
-fn left_to(at: usize, end: usize) -> u64
-    ensures { result ≡ end - at }
-{
-    if end < at {
-        return 0;
-    }
-    (end - at) as u64
-}
-
 // Bytes put into a buffer from an index on, as many as there are and have a place before the end; their number.
+
 fn fill(body: &mut [u8], at: usize, end: usize, bytes: &[u8]) -> usize
     requires { (at ≤ end) × (end ≤ length body.old) }
     ensures { (result ≡ min (end - at) (length bytes.now)) × (body.new ≡ paste body.old at bytes.now result) }
 {
-    let n = lesser((end - at) as u64, bytes.len() as u64) as usize;
-    fields::copy_bytes(body, at, bytes, n);
+    let n = (end - at).min(bytes.len());
+    body[at..at + n].copy_from_slice(&bytes[..n]);
     n
 }
 
-// What a length of so many words opens, with how many bytes were taken to its end.
+/// What a length of so many words opens, with how many bytes were taken to its end.
 #[tactic(auto, using(crate::proofs::Phases::opened_long))]
 fn open(words: u32, count: usize) -> Taken
     ensures { ((body : List ℕ) → record { phase = result.phase; body = body; found = result.found } ≡ opened words body) × (result.count ≡ count) }
@@ -115,7 +117,7 @@ fn open(words: u32, count: usize) -> Taken
     }
 }
 
-// Bytes of a length.
+/// Bytes of a length.
 fn cut_length(at: usize, body: &mut [u8], bytes: &[u8]) -> Taken
     requires { (at < 4) × (4 ≤ length body.old) × (1 ≤ length bytes.now) }
     ensures { CutsLength at body.old bytes.now result body.new }
@@ -131,7 +133,7 @@ fn cut_length(at: usize, body: &mut [u8], bytes: &[u8]) -> Taken
     open(littleendian::word_at(body, 0), n)
 }
 
-// Bytes of a sheet.
+/// Bytes of a sheet.
 fn cut_body(at: usize, end: usize, body: &mut [u8], bytes: &[u8]) -> Taken
     requires { (at < end) × (end ≤ length body.old) × (1 ≤ length bytes.now) }
     ensures { CutsBody at end body.old bytes.now result body.new }
@@ -151,12 +153,12 @@ fn cut_body(at: usize, end: usize, body: &mut [u8], bytes: &[u8]) -> Taken
     }
 }
 
-// Bytes that are passed over: none of them is looked at.
+/// Bytes that are passed over: none of them is looked at.
 fn cut_passing(left: u64, bytes: &[u8]) -> Taken
     requires { (1 ≤ left) × (1 ≤ length bytes.now) }
     ensures { CutsPassing left bytes.now result }
 {
-    let n = lesser(left, bytes.len() as u64);
+    let n = left.min(bytes.len() as u64);
     if n < left {
         return Taken {
             phase: Phase::Passing(left - n),
@@ -171,7 +173,7 @@ fn cut_passing(left: u64, bytes: &[u8]) -> Taken
     }
 }
 
-// Takes bytes up to the first that brings something to its end, or all of them.
+/// Takes bytes up to the first that brings something to its end, or all of them.
 pub fn cut(phase: Phase, body: &mut [u8], bytes: &[u8]) -> Taken
     requires { (takes_byte phase (length body.old) ≡ true) × (1 ≤ length bytes.now) }
     ensures { CutsTo phase body.old bytes.now result body.new }

@@ -4,8 +4,10 @@
 ghost use Rattle.std.specs.Prelude.{◌≡◌, ◌≤◌, ◌*◌, ◌+◌, ◌<◌};
 ghost use Rattle.distance.specs.Metres.{metres, Nearest, max_offset, max_metres, difference, squared_distance, metres_between};
 
-// The nearest whole metre of a squared distance in square centimetres. The estimates count half metres: each is at least the root, and the first
-// that does not fall is the root. Half of the next number, rounded down, is the nearest metre.
+/// The nearest whole metre of a squared distance in square centimetres, a half going up.
+///
+/// The estimates count half metres: each is at least the root, and the first that does not fall is the root. Half of the next number, rounded down,
+/// is the nearest metre.
 #[tactic(auto, using(crate::proofs::Largest::none_metres))]
 pub fn root(q: u64) -> u64
     ensures { (result ≡ metres q) × Nearest q result }
@@ -15,6 +17,7 @@ pub fn root(q: u64) -> u64
         return 0;
     }
     let mut x = n;
+    // A loop: each estimate is made from the one before, and none is counted.
     let halves = loop {
         let next = (x + n / x) / 2;
         if x <= next {
@@ -25,23 +28,12 @@ pub fn root(q: u64) -> u64
     (halves + 1) / 2
 }
 
-// How far two coordinates lie from each other.
-fn gap(a: u32, b: u32) -> u64
-    requires { (a ≤ max_offset) × (b ≤ max_offset) }
-    ensures { (result ≡ difference a b) × (result ≤ max_offset) }
-{
-    if a < b {
-        return (b - a) as u64;
-    }
-    (a - b) as u64
-}
-
-// The nearest whole metre between two points, their coordinates in centimetres counted from -1,000,000.
+/// The nearest whole metre between two points, their coordinates in centimetres counted from -1,000,000.
 pub fn between(e: u32, n: u32, e2: u32, n2: u32) -> u32
     requires { (e ≤ max_offset) × (n ≤ max_offset) × (e2 ≤ max_offset) × (n2 ≤ max_offset) }
     ensures { (result ≡ metres_between e n e2 n2) × (result ≤ max_metres) × Nearest (squared_distance e n e2 n2) result }
 {
-    let east = gap(e, e2);
-    let north = gap(n, n2);
+    let east = e.abs_diff(e2) as u64;
+    let north = n.abs_diff(n2) as u64;
     root(east * east + north * north) as u32
 }

@@ -1,15 +1,14 @@
 -- An assignment is what the test accepts, and the test's answer value by value.
-use Prim.Native.Nat.{ℕ, suc, ◌+◌, ◌≤◌, ◌<◌}
+use Prim.Native.Nat.{ℕ, suc}
 use native.Mathlib.Omega.{arith}
-use native.Mathlib.Numerals.{add-one}
-use mathlib.Core.Path.{◌≡◌, refl, sym, ap, ◌∙◌}
+use mathlib.Core.Path.{◌≡◌, refl, ap}
 use mathlib.Core.Bool.{Bool, true, false, ◌&&◌, false≢true}
 use mathlib.Core.List.{List, [], ◌∷◌}
-use lib.ListN.{length, get_or, take, drop, drop_of_length-le}
-use lib.Seq.{drop-cons, length-take-le, get_or-take}
+use lib.ListN.{length}
 use lib.Dec.{ltb}
-use borrow.Author.Tests.{lt-ltb, le-ltb, ltb-true}
+use borrow.Author.Tests.{lt-ltb, ltb-true}
 use Rattle.wcsp.specs.Clause.{nil, cons, InRange}
+use Rattle.std.specs.List.{list_all, zip}
 use Rattle.fields.specs.Assignment.{is_assignment}
 
 pub in_range_of : (ds p : List ℕ) → is_assignment ds p ≡ true → InRange ds p
@@ -28,46 +27,22 @@ unfolding is_assignment
 assignment_of nil = refl
 assignment_of (cons {a = d} {b = v} h r) = rw (lt-ltb v d h) (assignment_of r)
 
--- ---- value by value
+-- ---- by pairs of a value and its size
 
-other_length : (ds p : List ℕ) → (length p ≡ length ds → ⊥) → false ≡ is_assignment ds p
+pub assignment_long : (ds p : List ℕ) → (length p ≡ length ds → ⊥) → false ≡ is_assignment ds p
 unfolding is_assignment
-other_length [] [] h = absurd (h refl)
-other_length [] (v ∷ p) h = refl
-other_length (d ∷ ds) [] h = refl
-other_length (d ∷ ds) (v ∷ p) h = go (ltb v d) (other_length ds p (λ e. h (ap suc e)))
+assignment_long [] [] h = absurd (h refl)
+assignment_long [] (v ∷ p) h = refl
+assignment_long (d ∷ ds) [] h = refl
+assignment_long (d ∷ ds) (v ∷ p) h = go (ltb v d) (assignment_long ds p (λ e. h (ap suc e)))
   where
     go : (b : Bool) → false ≡ is_assignment ds p → false ≡ (b && is_assignment ds p)
     go true e = e
     go false e = refl
 
-module _ (sizes : List ℕ) (n : ℕ) (p : List ℕ) (limit : n ≤ length sizes) where
-  long : length (take n sizes) ≡ n
-  long = length-take-le n sizes limit
-
-  pub assignment_long : (length p ≡ n → ⊥) → false ≡ is_assignment (take n sizes) p
-  assignment_long h = other_length (take n sizes) p (λ e. h (e ∙ long))
-
-  module _ (i : ℕ) (same : length p ≡ n) where
-    module _ (here : i < n) where
-      one_value : is_assignment (drop i (take n sizes)) (drop i p)
-          ≡ (ltb (get_or p i 0) (get_or sizes i 0) && is_assignment (drop (i + 1) (take n sizes)) (drop (i + 1) p))
-      unfolding is_assignment
-      one_value =
-          let l = long in
-          rw (add-one i, drop-cons (take n sizes) i 0 (omega arith), drop-cons p i 0 (omega arith), get_or-take n sizes i 0 here)
-
-      pub assignment_high : get_or sizes i 0 ≤ get_or p i 0 → false ≡ is_assignment (drop i (take n sizes)) (drop i p)
-      assignment_high h = sym (one_value ∙ ap (λ b. b && is_assignment (drop (i + 1) (take n sizes)) (drop (i + 1) p)) (le-ltb (get_or p i 0) (get_or sizes i 0) h))
-
-      pub assignment_more : get_or p i 0 < get_or sizes i 0
-          → is_assignment (drop i (take n sizes)) (drop i p) ≡ is_assignment (drop (i + 1) (take n sizes)) (drop (i + 1) p)
-      assignment_more h = one_value ∙ ap (λ b. b && is_assignment (drop (i + 1) (take n sizes)) (drop (i + 1) p)) (lt-ltb (get_or p i 0) (get_or sizes i 0) h)
-
-    pub assignment_end : n ≤ i → true ≡ is_assignment (drop i (take n sizes)) (drop i p)
-    unfolding is_assignment
-    assignment_end h =
-        let l = long in
-        let a : length (take n sizes) ≤ i = omega arith in
-        let b : length p ≤ i = omega arith in
-        rw (drop_of_length-le (take n sizes) a, drop_of_length-le p b)
+pub assignment_all : (ds p : List ℕ) → length p ≡ length ds → list_all (λ x. ltb x.0 x.1) (zip p ds) ≡ is_assignment ds p
+unfolding is_assignment
+assignment_all [] [] e = refl
+assignment_all [] (v ∷ p) e = absurd (omega arith)
+assignment_all (d ∷ ds) [] e = absurd (omega arith)
+assignment_all (d ∷ ds) (v ∷ p) e = ap (λ b. ltb v d && b) (assignment_all ds p (omega arith))

@@ -5,10 +5,12 @@ use mathlib.Core.Path.{◌≡◌, refl}
 use mathlib.Core.Bool.{Bool, true, false, ◌||◌, cond}
 use lib.Dec.{eqb}
 use borrow.Author.Tests.{eq-eqb, ne_eqb, eqb-true}
+use Rattle.words.specs.declared.Word.{Word}
 use Rattle.words.specs.declared.Word.TheVariants.{Cost, Forbidden}
 use Rattle.words.specs.Layout.{kind_of, payload_of}
 use Rattle.words.specs.Meaning.{word_of}
 use Rattle.words.proofs.Inverse.{cost_kind, forbidden_kind}
+use Rattle.words.proofs.Said.{by_word}
 use Rattle.fields.specs.Limits.{forbidden_cost}
 use Rattle.fields.specs.Entries.{closes_entry, cost_of}
 
@@ -56,3 +58,16 @@ module _ (w : ℕ) where
       go true y e = let z : ◌≡◌ {A = ℕ} 0 1 = cc in absurd (omega arith)
       go false true e = let z : ◌≡◌ {A = ℕ} 0 1 = cc in absurd (omega arith)
       go false false e = refl
+
+-- the cost that a word gives, by what the word says
+abbrev pub cost_said : Word → ℕ
+cost_said (Cost c) = c
+cost_said (Forbidden p) = forbidden_cost
+cost_said word = 0
+
+pub cost_of_said : (w : ℕ) → cost_of w ≡ cost_said (word_of w)
+unfolding cost_of
+cost_of_said w =
+    by_word (λ k p. cond (eqb k 4) p (cond (eqb k 11) forbidden_cost 0)) cost_said (λ p. refl) (λ p. refl) (λ p. refl) (λ p. refl) (λ p. refl) (λ p. refl)
+    (λ p. refl) (λ p. refl) (λ p. refl) (λ p. refl) (λ p. refl) (λ p. refl)
+    (λ k p n. rw (n 4 (omega arith) (omega arith), n 11 (omega arith) (omega arith))) w

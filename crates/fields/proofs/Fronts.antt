@@ -6,8 +6,8 @@ use mathlib.Core.Path.{◌≡◌, refl, sym}
 use mathlib.Core.Bool.{Bool, true, false, not, ◌&&◌, cond, false≢true}
 use mathlib.Core.List.{List, [], ◌∷◌, map}
 use mathlib.Core.Option.{none, some}
-use lib.ListN.{length, get_or, set, take}
-use lib.Seq.{sets, slice, slice-cons, slice_empty, length-take-le}
+use lib.ListN.{length, get_or, set, drop, drop_of_length-le}
+use lib.Seq.{sets, drop-cons}
 use lib.Dec.{eqb, leb}
 use borrow.Author.Tests.{eq-eqb, eqb-true, le-leb, lt-leb, leb-true}
 use Rattle.wcsp.proofs.Lists.{and_left, and_right}
@@ -98,13 +98,9 @@ good_long (suc k) (w ∷ ws) e =
 
 -- ---- written one after another
 
-pub front-whole : (t sizes : List ℕ) (n word : ℕ) → n ≤ length sizes → word ≡ head_word n
-    → sets (set t 0 word) 1 (map size_word (take n sizes)) ≡ sets t 0 (front_words (take n sizes))
-front-whole t sizes n word h e = rw (e, length-take-le n sizes h)
+pub sizes_next : (t sizes : List ℕ) (i : ℕ) → i < length sizes
+    → sets t (i + 1) (map size_word (drop i sizes)) ≡ sets (set t (i + 1) (size_word (get_or sizes i 0))) (i + 1 + 1) (map size_word (drop (i + 1) sizes))
+sizes_next t sizes i h = rw (add-one (i + 1), add-one i, drop-cons sizes i 0 h)
 
-pub sizes_next : (whole t sizes : List ℕ) (n i : ℕ) → whole ≡ sets t (i + 1) (map size_word (slice i n sizes)) → i < n → n ≤ length sizes
-    → whole ≡ sets (set t (i + 1) (size_word (get_or sizes i 0))) (i + 1 + 1) (map size_word (slice (i + 1) n sizes))
-sizes_next whole t sizes n i inv h k = rw (add-one (i + 1), add-one i) (rw (slice-cons i n sizes 0 h k, add-one i) at inv)
-
-pub sizes_end : (whole t sizes : List ℕ) (n : ℕ) → whole ≡ sets t (n + 1) (map size_word (slice n n sizes)) → t ≡ whole
-sizes_end whole t sizes n inv = sym (rw (slice_empty n sizes) at inv)
+pub sizes_end : (t sizes : List ℕ) (n : ℕ) → length sizes ≤ n → sets t (n + 1) (map size_word (drop n sizes)) ≡ t
+sizes_end t sizes n h = rw (drop_of_length-le sizes h)

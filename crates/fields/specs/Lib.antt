@@ -5,5 +5,6 @@ pub mod Entries
 pub mod Forbidden
 pub mod Assignment
 pub mod Padding
+pub mod Numbers
 pub mod Answers
 pub mod Order

@@ -1,84 +1,52 @@
-// What the crates above share on a field: its limits, its sizes' words in front of a slice, a word's cost, assignments, the answer of a call, a
-// copy of bytes, and two small functions on numbers.
+// What the crates above share on a field: its limits, its sizes and their words in front of a slice, a word's cost, assignments, and why a call is
+// refused.
 #![tactic(auto)]
 
-ghost use Rattle.std.specs.Prelude.{◌≡◌, ◌+◌, ◌<◌, ◌≤◌, min, length, take};
+pub mod refusals;
+
+ghost use Rattle.std.specs.Prelude.{◌≡◌, ◌+◌, ◌<◌, ◌≤◌, length, take};
 ghost use Rattle.std.proofs.lemmas.List.Edits.{sets};
 ghost use Rattle.std.proofs.Math.Seq.{paste};
 ghost use Rattle.fields.specs.Limits.{max_variables};
 ghost use Rattle.fields.specs.Front.{front_words};
 ghost use Rattle.fields.specs.Entries.{cost_of};
 ghost use Rattle.fields.specs.Assignment.{is_assignment};
-ghost use Rattle.fields.specs.Answers.{refused, good};
 
+use arrayvec::ArrayVec;
 use words::Word;
+use words::kinds::Kind;
 
-// The most variables, values and entries of a field, the greatest ordinary cost of an entry, and what a forbidden one costs.
+/// The most variables of a field.
 pub const MAX_VARIABLES: usize = 12;
 
+/// The most values of a variable.
 pub const MAX_VALUES: u32 = 8;
 
+/// The most entries of a field.
 pub const MAX_ENTRIES: u32 = 4096;
 
+/// The greatest ordinary cost of an entry.
 pub const MAX_COST: u32 = 65535;
 
+/// What a forbidden entry costs.
 pub const FORBIDDEN_COST: u32 = 268431361;
 
-// A number, 0 for success, and a value, 0 where refused.
-#[derive(Clone, Copy)]
-pub struct Answer {
-    pub number: u32,
-    pub value: u64,
-}
+/// The sizes of a field's variables, one for each: how many values it can have, 1 to 8.
+pub type Sizes = ArrayVec<u8, 12>;
 
-// The answer of a refused call.
-pub fn refusal(k: u32) -> Answer
-    ensures { result ≡ refused k }
+/// Writes the head and the size words of variables of these sizes to the front of a slice that they fit into.
+#[tactic(auto, using(crate::proofs::Fronts::sizes_next, crate::proofs::Fronts::sizes_end))]
+pub fn write_front(target: &mut [u32], sizes: &[u8])
+    requires { (length sizes.now ≤ max_variables) × (length sizes.now + 1 ≤ length target.old) }
+    ensures { target.new ≡ sets target.old 0 (front_words sizes.now) }
 {
-    Answer {
-        number: k,
-        value: 0,
+    target[0] = Kind::Head.word(sizes.len() as u32);
+    for (i, size) in sizes.iter().enumerate() {
+        target[i + 1] = Kind::Size.word(u32::from(*size));
     }
 }
 
-// The answer of a good one.
-pub fn success(v: u64) -> Answer
-    ensures { result ≡ good v }
-{
-    Answer {
-        number: 0,
-        value: v,
-    }
-}
-
-// A byte as a number of 32 bits.
-pub fn wide(x: u8) -> u32
-    ensures { (result ≡ x) × (result < 256) }
-{
-    x as u32
-}
-
-// The lesser of two weights, or of two lengths.
-pub fn lesser(a: u64, b: u64) -> u64
-    ensures { result ≡ min a b }
-{
-    if a < b { a } else { b }
-}
-
-// The head and the station words of n variables, in front of a slice that they fit into.
-pub fn write_front(target: &mut [u32], sizes: &[u8; MAX_VARIABLES], n: usize)
-    requires { (n ≤ max_variables) × (length sizes.now ≡ max_variables) × (n + 1 ≤ length target.old) }
-    ensures { target.new ≡ sets target.old 0 (front_words (take n sizes.now)) }
-{
-    target[0] = words::head(n as u32);
-    let mut i: usize = 0;
-    while i < n {
-        target[i + 1] = words::size(wide(sizes[i]));
-        i += 1;
-    }
-}
-
-// The first n of the bytes, put into the target from an index on.
+/// The first n of the bytes, put into the target from an index on.
 pub fn copy_bytes(target: &mut [u8], at: usize, bytes: &[u8], n: usize)
     requires { (at + n ≤ length target.old) × (n ≤ length bytes.now) }
     ensures { target.new ≡ paste target.old at bytes.now n }
@@ -90,32 +58,22 @@ pub fn copy_bytes(target: &mut [u8], at: usize, bytes: &[u8], n: usize)
     }
 }
 
-// The cost that a word gives, 0 if it closes no entry.
-pub fn cost_of(w: u32) -> u32
-    ensures { result ≡ cost_of w }
+/// The cost that a word gives, 0 if it closes no entry.
+#[tactic(auto, using(crate::proofs::Closing::cost_of_said))]
+pub fn cost_of(word: u32) -> u32
+    ensures { result ≡ cost_of word }
 {
-    let word = words::read(w);
-    match word {
-        Word::Cost(c) => c,
+    match Word::from(word) {
+        Word::Cost(cost) => cost,
         Word::Forbidden(_) => FORBIDDEN_COST,
         _ => 0,
     }
 }
 
-// The bytes are one value below each of n sizes.
-pub fn is_assignment(sizes: &[u8; MAX_VARIABLES], n: usize, plan: &[u8]) -> bool
-    requires { (n ≤ max_variables) × (n ≤ length sizes.now) }
-    ensures { result ≡ is_assignment (take n sizes.now) plan.now }
+/// Whether a plan has one value for each variable, below the variable's size.
+#[tactic(auto, using(crate::proofs::Assigning::assignment_long, crate::proofs::Assigning::assignment_all))]
+pub fn is_assignment(sizes: &[u8], plan: &[u8]) -> bool
+    ensures { result ≡ is_assignment sizes.now plan.now }
 {
-    if plan.len() != n {
-        return false;
-    }
-    let mut i: usize = 0;
-    while i < n {
-        if sizes[i] <= plan[i] {
-            return false;
-        }
-        i += 1;
-    }
-    true
+    plan.len() == sizes.len() && plan.iter().zip(sizes).all(|(value, size)| value < size)
 }

@@ -1,12 +1,14 @@
 -- Words written as little-endian bytes: how many bytes there are, that reading gives the words back, and the bytes stored word by word.
-use Prim.Native.Nat.{ℕ, suc, ◌+◌, ◌*◌, ◌/◌, ◌%◌, ◌≤◌, ◌<◌}
+use Prim.Native.Nat.{ℕ, suc, ◌+◌, ◌*◌, ◌/◌, ◌%◌, ◌≤◌, ◌<◌, ◌-◌}
 use native.Mathlib.Nat.{zero-add}
 use native.Mathlib.Numerals.{add-one}
 use native.Mathlib.Omega.{arith}
 use mathlib.Core.Path.{◌≡◌, refl, ◌∙◌}
 use mathlib.Core.List.{List, [], ◌∷◌, ◌++◌}
-use lib.ListN.{length, get_or, set, drop, drop_of_length-le}
-use lib.Seq.{sets, sets-eq, drop-cons}
+use Rattle.std.proofs.Common.{append_assoc, take}
+use lib.ListN.{length, get_or, drop, drop_of_length-le}
+use lib.Seq.{sets, sets-eq, drop-cons, drop-drop}
+use borrow.Rule.Slice.PartMut.{put_mid}
 use Rattle.fields.specs.Entries.{nil_each, cons_each}
 use Rattle.littleendian.specs.Words.{words_in, bytes_of}
 use Rattle.littleendian.specs.Theorems.{WrittenReadsBack, ReadWritesBack, WritesBytes}
@@ -75,16 +77,20 @@ writes_bytes (w ∷ ws) (cons_each h hs) =
 
 -- ---- stored word by word: what is stored and what is left to store make the whole
 
--- the four stores of a word
-pub word_stored_as : (bytes : List ℕ) (at w : ℕ)
-    → set (set (set (set bytes at (w % 256)) (at + 1) (w / 256 % 256)) (at + 2) (w / 65536 % 256)) (at + 3) (w / 16777216)
-    ≡ sets bytes at (bytes_of (w ∷ []))
+-- bytes put in their place
+stored_as : (bytes put : List ℕ) (at : ℕ) → at + length put ≤ length bytes → put_mid at (length put) bytes put ≡ sets bytes at put
+stored_as bytes put at room = rw (sets-eq put bytes at room, ← drop-drop (length put) at bytes, append_assoc (take at bytes) put (drop (length put) (drop at bytes))) refl
+
+-- the four bytes of a word
+pub word_stored_as : (bytes four : List ℕ) (at w : ℕ) → w < 4294967296 → at + 4 ≤ length bytes
+    → four ≡ w % 256 ∷ (w / 256 % 256 ∷ (w / 65536 % 256 ∷ (w / 16777216 % 256 ∷ [])))
+    → put_mid at (at + 4 - at) bytes four ≡ sets bytes at (bytes_of (w ∷ []))
 unfolding bytes_of
-word_stored_as bytes at w =
-    let one : at + 1 ≡ suc at = omega arith in
-    let two : at + 2 ≡ suc (suc at) = omega arith in
-    let three : at + 3 ≡ suc (suc (suc at)) = omega arith in
-    rw (one, two, three)
+word_stored_as bytes four at w small room e =
+    let high : w / 16777216 % 256 ≡ w / 16777216 = omega arith in
+    let all : at + 4 - at ≡ 4 = omega arith in
+    let stored = stored_as bytes (w % 256 ∷ (w / 256 % 256 ∷ (w / 65536 % 256 ∷ (w / 16777216 ∷ [])))) at room in
+    rw (e, high, all) stored
 
 module _ (words bytes₀ bytes : List ℕ) (i : ℕ) (inv : sets bytes (4 * i) (bytes_of (drop i words)) ≡ sets bytes₀ 0 (bytes_of words)) where
   -- one more word stored

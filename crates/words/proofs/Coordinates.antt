@@ -5,7 +5,7 @@ use mathlib.Core.Path.{◌≡◌}
 use native.Mathlib.Decide.{dec_le}
 use borrow.Author.Tests.{le-leb, lt-leb}
 use Rattle.words.specs.declared.Word.TheVariants.{Easting, Northing}
-use Rattle.words.specs.declared.Coordinate.TheVariants.{At, Outside}
+use Rattle.std.specs.Prelude.{Some, None}
 use Rattle.words.specs.Layout.{coordinate_payload, easting_word, northing_word}
 use Rattle.words.specs.Meaning.{of_kind, word_of, coordinate_of}
 use Rattle.words.proofs.Reading.{of_kind_lem}
@@ -20,15 +20,15 @@ pub payload_down : (o : ℕ) → o < 1000000 → 268435456 + o - 1000000 ≡ coo
 unfolding coordinate_payload
 payload_down o h = rw (lt-leb 1000000 o h)
 
-pub at_up : (p : ℕ) → p ≤ 1000000 → At (p + 1000000) ≡ coordinate_of p
+pub at_up : (p : ℕ) → p ≤ 1000000 → Some (p + 1000000) ≡ coordinate_of p
 unfolding coordinate_of
 at_up p h = rw (le-leb p 1000000 h)
 
-pub at_down : (p : ℕ) → 267435456 ≤ p → At (p - 267435456) ≡ coordinate_of p
+pub at_down : (p : ℕ) → 267435456 ≤ p → Some (p - 267435456) ≡ coordinate_of p
 unfolding coordinate_of
 at_down p h = rw (lt-leb p 1000000 (omega arith), le-leb 267435456 p h)
 
-pub outside : (p : ℕ) → 1000000 < p → p < 267435456 → Outside ≡ coordinate_of p
+pub outside : (p : ℕ) → 1000000 < p → p < 267435456 → None ≡ coordinate_of p
 unfolding coordinate_of
 outside p h h' = rw (lt-leb p 1000000 h, lt-leb 267435456 p h')
 
@@ -41,7 +41,7 @@ payload_bounded o h = either (dec_le 1000000 o)
 
 -- ---- there and back
 
-pub coordinate_inverse : (p o : ℕ) → p < 268435456 → coordinate_of p ≡ At o → (p ≡ coordinate_payload o) × (o ≤ 2000000)
+pub coordinate_inverse : (p o : ℕ) → p < 268435456 → coordinate_of p ≡ Some o → (p ≡ coordinate_payload o) × (o ≤ 2000000)
 coordinate_inverse p o h e = low (dec_le p 1000000)
   where
     high : 1000000 < p → Dec (267435456 ≤ p) → (p ≡ coordinate_payload o) × (o ≤ 2000000)

@@ -1,4 +1,6 @@
 -- The words of document 01 and of wish 4 of document 02: how each one is made. A word's kind is its top four bits, its payload the low 28; unnamed bits are zero.
+use Rattle.words.specs.declared.kinds.Kind.{Kind}
+use Rattle.words.specs.declared.kinds.Kind.TheVariants.{Head, Size, Binding, Cost, Signs, Weight, Step, Easting, Northing, Count, Forbidden, High}
 use Rattle.std.specs.Prelude.{ℕ, ◌+◌, ◌-◌, ◌*◌, ◌/◌, ◌%◌, cond, List, [], ◌∷◌, leb}
 
 abbrev pub kind_of : ℕ → ℕ
@@ -6,6 +8,25 @@ kind_of w = w / 268435456
 
 abbrev pub payload_of : ℕ → ℕ
 payload_of w = w % 268435456
+
+-- a word by its kind's number and its payload
+abbrev pub word_with : ℕ → ℕ → ℕ
+word_with k p = k * 268435456 + p
+
+-- the number of a kind
+abbrev pub kind_number : Kind → ℕ
+kind_number Head = 1
+kind_number Size = 2
+kind_number Binding = 3
+kind_number Cost = 4
+kind_number Signs = 5
+kind_number Weight = 6
+kind_number Step = 7
+kind_number Easting = 8
+kind_number Northing = 9
+kind_number Count = 10
+kind_number Forbidden = 11
+kind_number High = 12
 
 -- kind 1, head: the number of variables (document 01: stations)
 abbrev pub head_word : ℕ → ℕ

@@ -1,9 +1,7 @@
 -- What a word says, by its kind, and what a coordinate's payload says.
-use Rattle.std.specs.Prelude.{ℕ, ◌+◌, ◌-◌, ◌/◌, ◌%◌, cond, eqb, leb}
+use Rattle.std.specs.Prelude.{ℕ, ◌+◌, ◌-◌, ◌/◌, ◌%◌, cond, Option, Some, None, eqb, leb}
 use Rattle.words.specs.declared.Word.{Word}
 use Rattle.words.specs.declared.Word.TheVariants.{Head, Size, Binding, Cost, Signs, Weight, Step, Easting, Northing, Count, Forbidden, High, Unknown}
-use Rattle.words.specs.declared.Coordinate.{Coordinate}
-use Rattle.words.specs.declared.Coordinate.TheVariants.{At, Outside}
 use Rattle.words.specs.Layout.{kind_of, payload_of}
 
 -- a payload under its kind. A set unnamed bit shows in the fields: a binding's then is a variable from 16 or a value from 8 on.
@@ -27,6 +25,6 @@ unfoldable pub word_of : ℕ → Word
 unfolding of_kind
 word_of w = of_kind (kind_of w) (payload_of w)
 
--- a coordinate's payload, two's complement of 28 bits: its offset, if it is from -1,000,000 to 1,000,000
-unfoldable pub coordinate_of : ℕ → Coordinate
-coordinate_of p = cond (leb p 1000000) (At (p + 1000000)) (cond (leb 267435456 p) (At (p - 267435456)) Outside)
+-- a coordinate's payload, two's complement of 28 bits: its offset, where it is from -1,000,000 to 1,000,000
+unfoldable pub coordinate_of : ℕ → Option ℕ
+coordinate_of p = cond (leb p 1000000) (Some (p + 1000000)) (cond (leb 267435456 p) (Some (p - 267435456)) None)

@@ -1,12 +1,16 @@
-// The words of document 01 and of wish 4 of document 02: what a word says by its kind, the words that the planner writes, and three signs in one word.
+// The words of every format: what a word says by its kind, the words that the planner writes, and three signs in one word.
 #![tactic(auto)]
 
+pub mod kinds;
+
 ghost use Rattle.std.specs.Prelude.{◌≡◌, ◌+◌, ◌*◌, ◌<◌, ◌≤◌, ◌/◌, ◌%◌};
-ghost use Rattle.words.specs.Layout.{kind_of, payload_of, head_word, size_word, binding_word, cost_word, packed, signs_word, weight_word, step_word, coordinate_payload, easting_word, northing_word, count_word, high_word};
+ghost use Rattle.words.specs.Layout.{kind_of, payload_of, binding_word, cost_word, packed, signs_word, weight_word, step_word, coordinate_payload, easting_word, northing_word, count_word, high_word};
 ghost use Rattle.words.specs.Meaning.{word_of, coordinate_of};
 
-// A word by its kind, with its fields. A payload with a set unnamed bit has a field out of range.
-#[derive(Clone, Copy)]
+use crate::kinds::Kind;
+
+/// A word by its kind, with its fields. A payload with a set unnamed bit has a field out of range.
+#[derive(Clone, Copy, Debug, PartialEq, Eq)]
 pub enum Word {
     Head(u32),
     Size(u32),
@@ -23,90 +27,75 @@ pub enum Word {
     Unknown,
 }
 
-// A coordinate as its offset, the value in centimetres plus 1,000,000.
-#[derive(Clone, Copy)]
-pub enum Coordinate {
-    At(u32),
-    Outside,
-}
-
+/// The number of a word's kind, 0 to 15.
 pub fn kind(w: u32) -> u32
     ensures { (result ≡ kind_of w) × (result < 16) }
 {
     w / 268435456
 }
 
+/// A word's payload, its low 28 bits.
 pub fn payload(w: u32) -> u32
     ensures { (result ≡ payload_of w) × (result < 268435456) }
 {
     w % 268435456
 }
 
-pub fn read(w: u32) -> Word
-    ensures { result ≡ word_of w }
-{
-    let k = kind(w);
-    let p = payload(w);
-    match k {
-        1 => Word::Head(p),
-        2 => Word::Size(p),
-        3 => Word::Binding(p / 256, p % 256),
-        4 => Word::Cost(p),
-        5 => Word::Signs(p / 16777216, p % 16777216),
-        6 => Word::Weight(p),
-        7 => Word::Step(p / 16777216, p / 4096 % 4096, p % 4096),
-        8 => Word::Easting(p),
-        9 => Word::Northing(p),
-        10 => Word::Count(p),
-        11 => Word::Forbidden(p),
-        12 => Word::High(p),
-        0 | 13..=4294967295 => Word::Unknown,
+impl From<u32> for Word {
+    ghost from_gives = { λ w r. r ≡ word_of w };
+
+    fn from(w: u32) -> Word {
+        let p = payload(w);
+        match kind(w) {
+            1 => Word::Head(p),
+            2 => Word::Size(p),
+            3 => Word::Binding(p / 256, p % 256),
+            4 => Word::Cost(p),
+            5 => Word::Signs(p / 16777216, p % 16777216),
+            6 => Word::Weight(p),
+            7 => Word::Step(p / 16777216, p / 4096 % 4096, p % 4096),
+            8 => Word::Easting(p),
+            9 => Word::Northing(p),
+            10 => Word::Count(p),
+            11 => Word::Forbidden(p),
+            12 => Word::High(p),
+            0 | 13..=4294967295 => Word::Unknown,
+        }
     }
 }
 
+/// A coordinate's payload as its offset, the value in centimetres plus 1,000,000; none for a value below -1,000,000 or
+/// above 1,000,000.
 #[tactic(auto, using(crate::proofs::Coordinates::at_down))]
-pub fn place(p: u32) -> Coordinate
+pub fn place(p: u32) -> Option<u32>
     requires { p < 268435456 }
     ensures { result ≡ coordinate_of p }
 {
     if p <= 1000000 {
-        return Coordinate::At(p + 1000000);
+        return Some(p + 1000000);
     }
     if 267435456 <= p {
-        return Coordinate::At(p - 267435456);
+        return Some(p - 267435456);
     }
-    Coordinate::Outside
+    None
 }
 
-pub fn head(n: u32) -> u32
-    requires { n < 268435456 }
-    ensures { result ≡ head_word n }
-{
-    268435456 + n
-}
-
-pub fn size(d: u32) -> u32
-    requires { d < 268435456 }
-    ensures { result ≡ size_word d }
-{
-    536870912 + d
-}
-
+/// A binding's word.
 pub fn binding(variable: u32, value: u32) -> u32
     requires { (variable < 16) × (value < 8) }
     ensures { result ≡ binding_word variable value }
 {
-    805306368 + variable * 256 + value
+    Kind::Binding.word(variable * 256 + value)
 }
 
 pub fn cost(c: u32) -> u32
     requires { c < 268435456 }
     ensures { result ≡ cost_word c }
 {
-    1073741824 + c
+    Kind::Cost.word(c)
 }
 
-// Three signs side by side in 24 bits.
+/// Three signs side by side in 24 bits.
 pub fn pack(a: u32, b: u32, c: u32) -> u32
     requires { (a < 256) × (b < 256) × (c < 256) }
     ensures { (result ≡ packed a b c) × (result < 16777216) }
@@ -114,42 +103,46 @@ pub fn pack(a: u32, b: u32, c: u32) -> u32
     a + b * 256 + c * 65536
 }
 
+/// The word of three packed signs, those of variables 3k, 3k + 1 and 3k + 2.
 pub fn signs(k: u32, three: u32) -> u32
     requires { (k < 16) × (three < 16777216) }
     ensures { result ≡ signs_word k three }
 {
-    1342177280 + k * 16777216 + three
+    Kind::Signs.word(k * 16777216 + three)
 }
 
 pub fn weight(w: u32) -> u32
     requires { w < 268435456 }
     ensures { result ≡ weight_word w }
 {
-    1610612736 + w
+    Kind::Weight.word(w)
 }
 
+/// A step's word: its variable and its two rows.
 pub fn step(variable: u32, first: u32, second: u32) -> u32
     requires { (variable < 16) × (first < 4096) × (second < 4096) }
     ensures { result ≡ step_word variable first second }
 {
-    1879048192 + variable * 16777216 + first * 4096 + second
+    Kind::Step.word(variable * 16777216 + first * 4096 + second)
 }
 
+/// The word of an easting, given as its offset.
 pub fn easting(offset: u32) -> u32
     requires { offset ≤ 2000000 }
     ensures { result ≡ easting_word offset }
 {
-    2147483648 + wrapped(offset)
+    Kind::Easting.word(wrapped(offset))
 }
 
+/// The word of a northing, given as its offset.
 pub fn northing(offset: u32) -> u32
     requires { offset ≤ 2000000 }
     ensures { result ≡ northing_word offset }
 {
-    2415919104 + wrapped(offset)
+    Kind::Northing.word(wrapped(offset))
 }
 
-// The 28-bit two's complement of a coordinate that is given as its offset.
+/// The 28-bit two's complement of a coordinate that is given as its offset.
 fn wrapped(offset: u32) -> u32
     requires { offset ≤ 2000000 }
     ensures { (result ≡ coordinate_payload offset) × (result < 268435456) }
@@ -164,12 +157,12 @@ pub fn count(k: u32) -> u32
     requires { k < 268435456 }
     ensures { result ≡ count_word k }
 {
-    2684354560 + k
+    Kind::Count.word(k)
 }
 
 pub fn high(w: u32) -> u32
     requires { w < 268435456 }
     ensures { result ≡ high_word w }
 {
-    3221225472 + w
+    Kind::High.word(w)
 }

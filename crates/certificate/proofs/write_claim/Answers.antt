@@ -13,16 +13,16 @@ write_bindings-requires c =
 
 pub bounds-target-n : goal.bounds-target-n
 bounds-target-n c =
-    omega (arith, c.write_bindings.auto.target, length-set c.args.target.now 0 c.head.result, c.requires.plan_in_bounds)
+    omega (arith, c.write_bindings.auto.target, length-set c.args.target.now 0 c.word.result, c.requires.plan_in_bounds)
 
 pub bounds-target-n-2 : goal.bounds-target-n-2
 bounds-target-n-2 c =
     let n = length c.args.plan.now in
     omega (
       arith,
-      length-set c.write_bindings.new.target (n + 1) c.weight.result,
+      length-set c.write_bindings.new.target (n + 1) c.word-2.result,
       c.write_bindings.auto.target,
-      length-set c.args.target.now 0 c.head.result,
+      length-set c.args.target.now 0 c.word.result,
       c.requires.plan_in_bounds,
     )
 
@@ -30,15 +30,15 @@ pub shape_of-target : goal.shape_of-target
 shape_of-target c =
     let n = length c.args.plan.now in
     let t = c.write_bindings.new.target in
-    length-set (set t (n + 1) c.weight.result) (n + 2) c.high.result
-    ∙ length-set t (n + 1) c.weight.result
+    length-set (set t (n + 1) c.word-2.result) (n + 2) c.word-3.result
+    ∙ length-set t (n + 1) c.word-2.result
     ∙ c.write_bindings.auto.target
-    ∙ length-set c.args.target.now 0 c.head.result
+    ∙ length-set c.args.target.now 0 c.word.result
 
 pub returns : goal.returns
 returns c =
     let a = c.args in (
-      claim_stored a.target.now a.plan.now c.write_bindings.new.target a.cost c.head.result c.weight.result c.high.result
-          c.head.ensures c.write_bindings.ensures (omega (arith, c.weight.ensures)) (omega (arith, c.high.ensures, c.requires.claimable.small)),
+      claim_stored a.target.now a.plan.now c.write_bindings.new.target a.cost c.word.result c.word-2.result c.word-3.result
+          c.word.ensures c.write_bindings.ensures (omega (arith, c.word-2.ensures)) (omega (arith, c.word-3.ensures, c.requires.claimable.small)),
       refl,
     )

@@ -1,9 +1,9 @@
--- `read` answers what its word says: each kind's case is the one law that a word is read by its kind and payload.
+-- `from` answers what its word says: each kind's case is the one law that a word is read by its kind and payload.
 use native.Mathlib.Omega.{arith}
 use mathlib.Core.Path.{sym, ◌∙◌}
 use Rattle.words.specs.Meaning.{of_kind}
 use Rattle.words.proofs.Reading.{by_parts, unknown_else}
-use Rattle.words.proofs.read.Goals as goal
+use Rattle.words.proofs.WordFromU32.from.Goals as goal
 
 pub returns-in-1 : goal.returns-in-1
 unfolding of_kind
@@ -62,4 +62,4 @@ unfolding of_kind
 returns-in-0-2 c =
     let r = c.in-0.in-0-own.rest.0 in
     sym (unknown_else _ c.payload-p.result r.0.0.0.0.0.0.0.0.0.0.0.1 r.0.0.0.0.0.0.0.0.0.0.1 r.0.0.0.0.0.0.0.0.0.1 r.0.0.0.0.0.0.0.0.1 r.0.0.0.0.0.0.0.1 r.0.0.0.0.0.0.1 r.0.0.0.0.0.1 r.0.0.0.0.1 r.0.0.0.1 r.0.0.1 r.0.1 r.1) ∙
-    by_parts _ c.kind-k.result c.payload-p.result c.kind-k.ensures.0 c.payload-p.ensures.0
+    by_parts _ c.kind.result c.payload-p.result c.kind.ensures.0 c.payload-p.ensures.0
