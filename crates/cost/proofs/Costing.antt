@@ -1,53 +1,34 @@
 -- The cost of an assignment, word by word: what each word adds, and that the sum over the rest makes up the whole.
-use Prim.Native.Nat.{ℕ, ◌+◌, ◌≤◌, ◌<◌}
+use Prim.Native.Nat.{ℕ, ◌+◌, ◌/◌, ◌%◌, ◌≤◌, ◌<◌}
 use native.Mathlib.Omega.{arith}
 use native.Mathlib.Numerals.{add-one}
-use mathlib.Core.Path.{◌≡◌, sym, ◌∙◌}
-use mathlib.Core.Bool.{Bool, true, false}
+use mathlib.Core.Path.{◌≡◌, refl}
+use mathlib.Core.Bool.{Bool, true, ◌&&◌, ◌||◌, cond}
 use mathlib.Core.List.{List}
-use lib.ListN.{length, get_or, drop, drop_of_length-le, get_or-eq_default}
+use lib.ListN.{length, get_or, drop, drop_of_length-le}
 use lib.Seq.{drop-cons}
 use lib.Dec.{eqb}
-use borrow.Author.Tests.{eq-eqb}
 use Rattle.words.specs.declared.Word.{Word}
-use Rattle.words.specs.declared.Word.TheVariants.{Binding}
-use Rattle.words.specs.Layout.{kind_of}
+use Rattle.words.specs.declared.Word.TheVariants.{Binding, Cost, Forbidden}
 use Rattle.words.specs.Meaning.{word_of}
-use Rattle.words.proofs.Inverse.{binding_kind}
-use Rattle.fields.specs.Entries.{closes_entry, cost_of}
-use Rattle.fields.proofs.Closing.{closes_none}
+use Rattle.words.proofs.Said.{by_word}
+use Rattle.fields.specs.Entries.{closes_entry}
 use Rattle.cost.specs.Costing.{cost_in, matched_after, cost_from}
 
 -- ---- one word
 
-pub value_none : (p : List ℕ) (v : ℕ) → length p ≤ v → 0 ≡ get_or p v 0
-value_none p v h = sym (get_or-eq_default p 0 h)
+abbrev pub matched_by : List ℕ → Bool → Word → Bool
+matched_by p m (Binding v a) = m && eqb (get_or p v 0) a
+matched_by p m (Cost c) = true
+matched_by p m (Forbidden q) = true
+matched_by p m word = m
 
-pub cost_unmatched : (m : Bool) (w : ℕ) → m ≡ false → 0 ≡ cost_in m w
-unfolding cost_in
-cost_unmatched m w f = rw f
-
-pub cost_matched : (m : Bool) (w c : ℕ) → m ≡ true → c ≡ cost_of w → c ≡ cost_in m w
-unfolding cost_in
-cost_matched m w c f e = rw (f, e)
-
-module _ (p : List ℕ) (m : Bool) (w : ℕ) where
-  pub matched_on : (eqb (kind_of w) 3 ≡ false) × (eqb (kind_of w) 4 ≡ false) × (eqb (kind_of w) 11 ≡ false) → m ≡ matched_after p m w
-  unfolding matched_after
-  matched_on (l, h, k) = rw (l, closes_none w (h, k))
-
-  pub matched_anew : (eqb (kind_of w) 3 ≡ false) × (closes_entry w ≡ true) → true ≡ matched_after p m w
-  unfolding matched_after
-  matched_anew (n, k) = rw (n, k)
-
-  module _ (read : Word) (e : read ≡ word_of w) (v a : ℕ) (g : read ≡ Binding v a) where
-    pub matched_not : m ≡ false → false ≡ matched_after p m w
-    unfolding matched_after
-    matched_not f = let k = (binding_kind w v a (sym e ∙ g)).0 in rw (eq-eqb (kind_of w) 3 k, f)
-
-    pub matched_by : (r : ℕ) → m ≡ true → r ≡ get_or p v 0 → eqb r a ≡ matched_after p m w
-    unfolding matched_after
-    matched_by r f h = let (k, x, y) = binding_kind w v a (sym e ∙ g) in rw (eq-eqb (kind_of w) 3 k, f, h, x, y)
+pub matched_said : (p : List ℕ) (m : Bool) (w : ℕ) → matched_after p m w ≡ matched_by p m (word_of w)
+unfolding matched_after closes_entry
+matched_said p m w =
+    by_word (λ k q. cond (eqb k 3) (m && eqb (get_or p (q / 256) 0) (q % 256)) (cond (eqb k 4 || eqb k 11) true m)) (matched_by p m)
+    (λ q. refl) (λ q. refl) (λ q. refl) (λ q. refl) (λ q. refl) (λ q. refl) (λ q. refl) (λ q. refl) (λ q. refl) (λ q. refl) (λ q. refl) (λ q. refl)
+    (λ k q n. rw (n 3 (omega arith) (omega arith), n 4 (omega arith) (omega arith), n 11 (omega arith) (omega arith))) w
 
 -- ---- the words from i on
 

@@ -16,11 +16,11 @@ use Rattle.fields.specs.Answers.{refused, good}
 use Rattle.fields.proofs.Padding.{padded-length}
 use Rattle.fields.proofs.Closing.{binding_closes_none, unclosed_costs_none}
 use Rattle.fields.proofs.Costs.{entries_costs}
-use Rattle.input.specs.declared.Validated.{Validated}
+use Rattle.fields.specs.declared.refusals.Fault.{Fault}
+use Rattle.fields.specs.Numbers.{fault_number}
 use Rattle.input.specs.Instance.{instance_fault, sizes_of, entries_of}
 use Rattle.input.specs.Accepted.{Accepted}
-use Rattle.input.specs.Calls.{validate_call}
-use Rattle.input.proofs.Validating.{GoodValidated, good_validated, bad_validated}
+use Rattle.input.proofs.Heads.{fault_known}
 use Rattle.input.proofs.Acceptance.{faultless_is_accepted}
 use Rattle.cost.specs.Costing.{cost_in, matched_after, cost_from}
 use Rattle.cost.specs.Calls.{cost_call}
@@ -68,45 +68,30 @@ cost_of_words p bs (w ∷ ws) = go (eqb (kind_of w) 3) (closes_entry w) refl ref
 
 -- ---- the call
 
-module _ (ws plan : List ℕ) (read : Validated) (r : read ≡ validate_call ws) where
-  pub cost-refused : (read.number ≡ 0 → ⊥) → refused read.number ≡ cost_call ws plan
+pub cost_refused : (f : Fault) (ws plan : List ℕ) → fault_number f ≡ instance_fault ws → refused (fault_number f) ≡ cost_call ws plan
+unfolding cost_call
+cost_refused f ws plan e = rw (fault_known f ws e, e)
+
+module _ (ws plan ds : List ℕ) (fine : 0 ≡ instance_fault ws) (s : ds ≡ sizes_of ws) where
+  taken : eqb (instance_fault ws) 0 ≡ true
+  taken = eq-eqb (instance_fault ws) 0 (sym fine)
+
+  is_accepted : Accepted ws
+  is_accepted = faultless_is_accepted ws (sym fine)
+
+  words_are : cost (entries_of ws) plan ≡ cost_from plan true (drop (length ds + 1) ws)
+  unfolding entries_of matches
+  words_are =
+      let o : 1 + payload_of (get_or ws 0 0) ≡ length ds + 1 = omega (arith, is_accepted.head, ap length s) in
+      cost_of_words plan [] (drop (1 + payload_of (get_or ws 0 0)) ws) ∙ ap (λ j. cost_from plan true (drop j ws)) o
+
+  pub cost_small : cost_from plan true (drop (length ds + 1) ws) ≤ greatest_cost
+  cost_small = rw (← words_are) (entries_costs is_accepted.entries plan)
+
+  pub cost_not : false ≡ is_assignment ds plan → refused 7 ≡ cost_call ws plan
   unfolding cost_call
-  cost-refused b = let (e, k) = bad_validated ws read r b in rw (e, k)
+  cost_not e = rw (taken, ← s, ← e)
 
-  module _ (z : read.number ≡ 0) where
-    known : GoodValidated ws read
-    known = good_validated ws read r z
-
-    taken : eqb (instance_fault ws) 0 ≡ true
-    taken = eq-eqb (instance_fault ws) 0 known.fine
-
-    is_accepted : Accepted ws
-    is_accepted = faultless_is_accepted ws known.fine
-
-    pub few_variables : (read.variables ≤ max_variables) × (read.variables ≤ length read.sizes)
-    few_variables =
-        let m = is_accepted.sizes.most in
-        let e = known.variables in
-        let l : length read.sizes ≡ max_variables = ap length known.sizes ∙ padded-length (sizes_of ws) m in
-        omega arith
-
-    words_are : cost (entries_of ws) plan ≡ cost_from plan true (drop (read.variables + 1) ws)
-    unfolding entries_of matches
-    words_are =
-        let o : 1 + payload_of (get_or ws 0 0) ≡ read.variables + 1 = omega (arith, is_accepted.head, known.variables) in
-        cost_of_words plan [] (drop (1 + payload_of (get_or ws 0 0)) ws) ∙ ap (λ j. cost_from plan true (drop j ws)) o
-
-    pub cost_small : cost_from plan true (drop (read.variables + 1) ws) ≤ greatest_cost
-    cost_small = rw (← words_are) (entries_costs is_accepted.entries plan)
-
-    module _ (ok : Bool) (a : ok ≡ is_assignment (take read.variables read.sizes) plan) where
-      assigned : is_assignment (sizes_of ws) plan ≡ ok
-      assigned = ap (λ ds. is_assignment ds plan) (sym known.front) ∙ sym a
-
-      pub cost-not : ok ≡ false → refused 7 ≡ cost_call ws plan
-      unfolding cost_call
-      cost-not e = rw (taken, assigned, e)
-
-      pub cost_is : (v : ℕ) → ok ≡ true → v ≡ cost_from plan true (drop (read.variables + 1) ws) → good v ≡ cost_call ws plan
-      unfolding cost_call
-      cost_is v e f = rw (taken, assigned, e, words_are, f)
+  pub cost_is : (v : ℕ) → true ≡ is_assignment ds plan → v ≡ cost_from plan true (drop (length ds + 1) ws) → good v ≡ cost_call ws plan
+  unfolding cost_call
+  cost_is v e f = rw (taken, ← s, ← e, words_are, f)

@@ -1,7 +1,7 @@
 -- The cost call: the answer for good and refused calls alike.
 use Rattle.std.specs.Prelude.{cond, List, ℕ, eqb}
 use Rattle.wcsp.specs.Entry.{cost}
-use Rattle.fields.specs.declared.Answer.{Answer}
+use Rattle.fields.specs.Answers.{Answer}
 use Rattle.fields.specs.Answers.{refused, good}
 use Rattle.fields.specs.Assignment.{is_assignment}
 use Rattle.input.specs.Instance.{instance_fault, sizes_of, entries_of}

@@ -3,3 +3,4 @@ pub mod Scanning
 pub mod Accepting
 pub mod Within
 pub mod Faults
+pub mod Scans

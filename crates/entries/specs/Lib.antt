@@ -1,3 +1,3 @@
 -- The entries' words: which are accepted, which of 3 to 5 the others get, and what their scan answers.
 pub mod Entries
-pub mod Scan
+pub mod Scans

@@ -1,7 +1,6 @@
 -- The laws of this crate that belong to no one function.
-pub mod Reading
-pub mod Filling
 pub mod Sizes
 pub mod Validating
 pub mod Acceptance
 pub mod Faults
+pub mod Heads

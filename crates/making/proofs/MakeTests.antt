@@ -1,4 +1,8 @@
 -- The make call by its tests: the instance written, a target that is too short, a fault of the sheet.
+use Rattle.fields.specs.Numbers.{number_of}
+use Rattle.fields.specs.declared.refusals.Refusal.{Refusal}
+use Rattle.fields.specs.declared.refusals.Refusal.TheVariants.{Input, BadStep, BadClaim, BadReadout, BadTable, TargetTooShort, WeightTooHigh, TableFull, PairLeft, BadFixed, Forbidden, WeightTooWide}
+use Rattle.sheet.proofs.Sheets.{fault_some}
 use Prim.Native.Nat.{ℕ, ◌≤◌, ◌<◌}
 use native.Mathlib.Omega.{arith}
 use mathlib.Core.Path.{◌≡◌, refl}
@@ -53,3 +57,18 @@ made_in sheet target _ (written fine room) z =
     }
 made_in sheet target _ (too_short fine over) z = absurd (omega arith)
 made_in sheet target _ (at_fault some) z = absurd (some z)
+
+-- a refusal has a number
+pub refusal_some : (r : Refusal) → number_of r ≡ 0 → ⊥
+refusal_some (Input f) e = fault_some f e
+refusal_some BadStep e = omega arith
+refusal_some BadClaim e = omega arith
+refusal_some BadReadout e = omega arith
+refusal_some BadTable e = omega arith
+refusal_some TargetTooShort e = omega arith
+refusal_some WeightTooHigh e = omega arith
+refusal_some TableFull e = omega arith
+refusal_some PairLeft e = omega arith
+refusal_some BadFixed e = omega arith
+refusal_some Forbidden e = omega arith
+refusal_some WeightTooWide e = omega arith

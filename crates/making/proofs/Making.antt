@@ -4,22 +4,20 @@ use native.Mathlib.Nat.{zero-add}
 use native.Mathlib.Omega.{arith}
 use mathlib.Core.Path.{◌≡◌, sym, ap, ◌∙◌}
 use mathlib.Core.List.{List, [], ◌∷◌, ◌++◌}
-use lib.ListN.{length, take, drop, length-drop, length-map}
+use lib.ListN.{length, drop, length-drop, length-map}
 use lib.Seq.{sets, sets-eq}
-use borrow.Author.Tests.{eq-eqb, le-leb, lt-leb}
+use borrow.Author.Tests.{eq-eqb, ne_eqb, le-leb, lt-leb}
 use Rattle.words.specs.Layout.{size_word}
-use Rattle.fields.specs.declared.Answer.{Answer}
+use Rattle.fields.specs.Answers.{Answer}
 use Rattle.fields.specs.Answers.{refused, good}
 use Rattle.fields.specs.Limits.{max_variables}
 use Rattle.fields.specs.Front.{front_words}
-use Rattle.fields.specs.Padding.{padded}
-use Rattle.fields.proofs.Padding.{sizes_taken}
-use Rattle.sheet.specs.declared.SheetRead.{SheetRead}
+use Rattle.fields.specs.Numbers.{fault_number}
+use Rattle.fields.specs.declared.refusals.Fault.{Fault}
 use Rattle.sheet.specs.Sheet.{leg_count, sheet_fault, sheet_sizes, positions_of, entry_words_of}
 use Rattle.making.specs.Made.{Leg, all_leg_words, legs_from, made_words}
-use Rattle.sheet.specs.Calls.{sheet_call}
 use Rattle.making.specs.Calls.{make_call}
-use Rattle.sheet.proofs.Sheets.{entries_start, GoodRead, bad_read}
+use Rattle.sheet.proofs.Sheets.{entries_start, fault_some}
 use Rattle.sheet.proofs.Acceptance.{accepted_sheet}
 use Rattle.making.proofs.GoodLegs.{legs_length}
 use Rattle.making.proofs.Reading.{made_none, made_words_lem, made_accepted, leg_words-length}
@@ -51,17 +49,17 @@ measure ws n entries fine some e f =
     }
 
 -- the length that the call reckons is the instance's
-pub long_is : (ws : List ℕ) (r : SheetRead) (count : ℕ) → GoodRead ws r → 1 ≤ length ws → count ≡ leg_count (take r.variables r.sizes)
-    → 1 + r.variables + 3 * count + (length ws - r.entries_at) ≡ length (made_words ws)
-long_is ws r count g some e =
-    let m = measure ws r.variables r.entries_at g.fine some g.variables g.entries in
-    let c : count ≡ leg_count (sheet_sizes ws) = e ∙ ap leg_count (sizes_taken (sheet_sizes ws) r.sizes r.variables g.sizes g.variables) in
+pub long_is : (ws sizes : List ℕ) (entries count : ℕ) → sheet_fault ws ≡ 0 → 1 ≤ length ws → sizes ≡ sheet_sizes ws → entries ≡ length ws - length (entry_words_of ws)
+    → count ≡ leg_count sizes → 1 + length sizes + 3 * count + (length ws - entries) ≡ length (made_words ws)
+long_is ws sizes entries count fine some d f e =
+    let m = measure ws (length sizes) entries fine some (ap length d) f in
+    let c : count ≡ leg_count (sheet_sizes ws) = e ∙ ap leg_count d in
     omega arith
 
 -- ---- the instance from its parts
 
-pub parts_stored : (ws sizes t₀ t₁ t₂ t₃ : List ℕ) (n behind entries : ℕ) → 1 ≤ length ws → sizes ≡ padded (sheet_sizes ws) → n ≡ length (sheet_sizes ws)
-    → entries ≡ length ws - length (entry_words_of ws) → t₁ ≡ sets t₀ 0 (front_words (take n sizes))
+pub parts_stored : (ws sizes t₀ t₁ t₂ t₃ : List ℕ) (n behind entries : ℕ) → 1 ≤ length ws → sizes ≡ sheet_sizes ws → n ≡ length (sheet_sizes ws)
+    → entries ≡ length ws - length (entry_words_of ws) → t₁ ≡ sets t₀ 0 (front_words sizes)
     → behind ≡ n + 1 + 3 * leg_count (sheet_sizes ws) → t₂ ≡ sets t₁ (n + 1) (all_leg_words (legs_from 0 (positions_of ws)))
     → t₃ ≡ sets t₂ behind (drop entries ws) → t₃ ≡ sets t₀ 0 (made_words ws)
 unfolding sheet_sizes
@@ -71,7 +69,7 @@ parts_stored ws sizes t₀ t₁ t₂ t₃ n behind entries some padding many sta
     let L : List ℕ = all_leg_words legs in
     let s : 0 + length (front_words ds) ≡ n + 1 = omega (arith, length-map ds size_word) in
     let l : n + 1 + length L ≡ behind = omega (arith, leg_words-length legs, legs_length 0 (positions_of ws)) in
-    let one : sets t₀ 0 (front_words ds) ≡ t₁ = rw (fronted, sizes_taken ds sizes n padding many) in
+    let one : sets t₀ 0 (front_words ds) ≡ t₁ = sym (fronted ∙ ap (λ xs. sets t₀ 0 (front_words xs)) padding) in
     let three : drop entries ws ≡ entry_words_of ws = rw start (entries_start ws) in
     let split : sets t₀ 0 (front_words ds ++ (L ++ entry_words_of ws)) ≡ sets (sets t₁ (n + 1) L) behind (entry_words_of ws) =
     sets_append t₀ 0 (front_words ds) (L ++ entry_words_of ws) ∙ rw (one, s) (sets_append t₁ (n + 1) L (entry_words_of ws) ∙ rw l) in
@@ -92,9 +90,9 @@ module _ (ws t : List ℕ) where
       go [] e = rw (q, made_none, le-leb 0 (length t) (omega arith))
       go (w ∷ ws) e = absurd (omega arith)
 
-  pub refused_make : (r : SheetRead) (a : Answer) → r ≡ sheet_call ws → (r.number ≡ 0 → ⊥) → a ≡ refused r.number → Makes a t
+  pub refused_make : (f : Fault) (a : Answer) → fault_number f ≡ sheet_fault ws → a ≡ refused (fault_number f) → Makes a t
   unfolding make_call
-  refused_make r a e h q = let (f, k) = bad_read ws r e h in rw (q, f, k)
+  refused_make f a e q = rw (q, ← e, ne_eqb (fault_number f) 0 (fault_some f))
 
   pub short_make : (long : ℕ) (a : Answer) → sheet_fault ws ≡ 0 → long ≡ length (made_words ws) → length t < long → a ≡ refused 10 → Makes a t
   unfolding make_call

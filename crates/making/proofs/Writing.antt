@@ -6,8 +6,11 @@ use native.Mathlib.Numerals.{add-one, add-two, add-three}
 use native.Mathlib.Omega.{arith}
 use mathlib.Core.Path.{◌≡◌, refl, sym, ap, ap₂, ◌∙◌}
 use mathlib.Core.List.{List, [], ◌∷◌, ◌++◌, map}
-use lib.ListN.{length, get_or, set, drop, drop_of_length-le}
-use lib.Seq.{sets, drop-cons}
+use Rattle.std.proofs.Common.{take, drop-cons, drop_of_length-le}
+use Rattle.std.proofs.lemmas.List.{append_assoc, drop-drop}
+use Rattle.std.proofs.lemmas.List.Edits.{sets-eq}
+use lib.ListN.{length, get_or, set, drop}
+use lib.Seq.{sets}
 use Rattle.words.specs.Layout.{payload_of, binding_word, cost_word}
 use Rattle.fields.specs.Limits.{max_values}
 use Rattle.sheet.specs.Sheet.{Point, leg_count, points_from, stations_from, sheet_fault, positions_of, sheet_sizes}
@@ -41,12 +44,14 @@ legs_stored t o xs ys k e =
 
 -- ---- copying
 
-pub copy_next : (whole t ws : List ℕ) (o j : ℕ) → whole ≡ sets t o (drop j ws) → j < length ws
-    → whole ≡ sets (set t o (get_or ws j 0)) (o + 1) (drop (j + 1) ws)
-copy_next whole t ws o j inv h = rw (add-one j, add-one o) (rw (drop-cons ws j 0 h) at inv)
+pub copy_next : (whole t ws : List ℕ) (o i : ℕ) → whole ≡ sets t (o + i) (drop i ws) → i < length ws
+    → whole ≡ sets (set t (o + i) (get_or ws i 0)) (o + (i + 1)) (drop (i + 1) ws)
+copy_next whole t ws o i inv h =
+    let e : o + (i + 1) ≡ suc (o + i) = omega arith in
+    rw (e, add-one i) (rw (drop-cons ws i 0 h) at inv)
 
-pub copy_ends : (whole t ws : List ℕ) (o j : ℕ) → whole ≡ sets t o (drop j ws) → length ws ≤ j → t ≡ whole
-copy_ends whole t ws o j inv h = sym (rw (drop_of_length-le ws {i = j} h) at inv)
+pub copy_ends : (whole t ws : List ℕ) (o i : ℕ) → whole ≡ sets t o (drop i ws) → length ws ≤ i → t ≡ whole
+copy_ends whole t ws o i inv h = sym (rw (drop_of_length-le ws {i = i} h) at inv)
 
 -- ---- one leg
 

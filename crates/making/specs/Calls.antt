@@ -1,6 +1,6 @@
 -- The make call: its answer and its target, for good and refused calls alike.
 use Rattle.std.specs.Prelude.{cond, List, ◌++◌, ℕ, length, drop, eqb, leb}
-use Rattle.fields.specs.declared.Answer.{Answer}
+use Rattle.fields.specs.Answers.{Answer}
 use Rattle.fields.specs.Answers.{refused, good}
 use Rattle.sheet.specs.Sheet.{sheet_fault}
 use Rattle.making.specs.Made.{made_words}

@@ -11,7 +11,7 @@ ghost use Rattle.sheet.specs.Places.{point_of};
 use sheet::Place;
 use sheet::points::{Values, place_at, values_at};
 
-// A leg's three words.
+/// A leg's three words.
 fn write_leg(target: &mut [u32], at: usize, variable: u32, value: u32, next: u32, metres: u32)
     requires { (at + 3 ≤ length target.old) × (variable < 15) × (value < max_values) × (next < max_values) × (metres ≤ max_metres) }
     ensures { target.new ≡ sets target.old at (leg_words (record { variable = variable; value = value; next_value = next; metres = metres })) }
@@ -24,7 +24,7 @@ fn write_leg(target: &mut [u32], at: usize, variable: u32, value: u32, next: u32
     target[at + 2] = third;
 }
 
-// The legs from one position to those of the next variable's values; the index behind them.
+/// The legs from one position to those of the next variable's values; the index behind them.
 fn write_legs_to(
     sheet: &[u32],
     variable: u32,
@@ -38,21 +38,15 @@ fn write_legs_to(
     ensures value { result ≡ at + 3 * next.size }
     ensures target_after { target.new ≡ sets target.old at (all_leg_words (legs_to variable value (point_of start) 0 (points_from next.size (drop next.at sheet.now)))) }
 {
-    let first = next.at;
-    let size = next.size;
-    let mut b: usize = 0;
-    let mut o = at;
-    while b < size {
-        let stop = place_at(sheet, first + 2 * b);
+    for b in 0..next.size {
+        let stop = place_at(sheet, next.at + 2 * b);
         let metres = distance::between(start.easting, start.northing, stop.easting, stop.northing);
-        write_leg(target, o, variable, value, b as u32, metres);
-        o += 3;
-        b += 1;
+        write_leg(target, at + 3 * b, variable, value, b as u32, metres);
     }
-    o
+    at + 3 * next.size
 }
 
-// The legs between two variables; the index behind them.
+/// The legs between two variables; the index behind them.
 fn write_legs_between(
     sheet: &[u32],
     variable: u32,
@@ -65,19 +59,15 @@ fn write_legs_between(
     ensures value { result ≡ at + 3 * (these.size * next.size) }
     ensures target_after { target.new ≡ sets target.old at (all_leg_words (legs_between variable 0 (points_from these.size (drop these.at sheet.now)) (points_from next.size (drop next.at sheet.now)))) }
 {
-    let first = these.at;
-    let size = these.size;
-    let mut a: usize = 0;
     let mut o = at;
-    while a < size {
-        let start = place_at(sheet, first + 2 * a);
+    for a in 0..these.size {
+        let start = place_at(sheet, these.at + 2 * a);
         o = write_legs_to(sheet, variable, a as u32, start, next, target, o);
-        a += 1;
     }
     o
 }
 
-// Every leg of an accepted sheet of n variables; the index behind them.
+/// Every leg of an accepted sheet of n variables; the index behind them.
 pub fn write_legs(sheet: &[u32], n: usize, target: &mut [u32], at: usize) -> usize
     requires sheet_value { sheet_fault sheet.now ≡ 0 }
     requires n_value { (n ≡ length (sheet_sizes sheet.now)) × (at + 3 * leg_count (sheet_sizes sheet.now) ≤ length target.old) }
@@ -85,15 +75,13 @@ pub fn write_legs(sheet: &[u32], n: usize, target: &mut [u32], at: usize) -> usi
     ensures target_after { target.new ≡ sets target.old at (all_leg_words (legs_from 0 (positions_of sheet.now))) }
 {
     let mut from: usize = 1;
-    let mut i: usize = 0;
     let mut o = at;
-    while i + 1 < n {
+    for i in 0..n.saturating_sub(1) {
         let these = values_at(sheet, from);
         let behind = these.at + 2 * these.size;
         let next = values_at(sheet, behind);
         o = write_legs_between(sheet, i as u32, these, next, target, o);
         from = behind;
-        i += 1;
     }
     o
 }

@@ -3,69 +3,59 @@
 
 mod legs;
 
-ghost use Rattle.std.specs.Prelude.{◌≡◌, ◌+◌, ◌-◌, ◌≤◌, length, drop};
+ghost use Rattle.std.specs.Prelude.{◌≡◌, ◌+◌, ◌-◌, ◌≤◌, length, drop, IfOk};
 ghost use Rattle.std.proofs.lemmas.List.Edits.{sets};
-ghost use Rattle.fields.specs.Padding.{padded};
+ghost use Rattle.fields.specs.Answers.{answer_of};
 ghost use Rattle.sheet.specs.Sheet.{sheet_fault, sheet_sizes, entry_words_of};
 ghost use Rattle.making.specs.Made.{made_words};
 ghost use Rattle.making.specs.Calls.{make_call};
 
-use fields::{Answer, MAX_VARIABLES};
+use fields::refusals::Refusal;
 use sheet::read_sheet;
 use sheet::stations::count_legs;
 
-// The sheet's words from an index to the end, copied.
-fn copy_words(sheet: &[u32], from: usize, target: &mut [u32], at: usize)
-    requires { (from ≤ length sheet.now) × (at + (length sheet.now - from) ≤ length target.old) }
-    ensures { target.new ≡ sets target.old at (drop from sheet.now) }
+/// Words copied over those of a target from an index on.
+fn copy_words(words: &[u32], target: &mut [u32], at: usize)
+    requires { at + length words.now ≤ length target.old }
+    ensures { target.new ≡ sets target.old at words.now }
 {
-    let mut j = from;
-    let mut o = at;
-    while j < sheet.len() {
-        target[o] = sheet[j];
-        j += 1;
-        o += 1;
+    // Word by word: `copy_from_slice` calls the C library's `memmove`, and the archive takes `memset` alone.
+    for i in 0..words.len() {
+        target[at + i] = words[i];
     }
 }
 
-// The instance made from an accepted sheet that has words, in front of a target that it fits into.
-fn write_instance(
-    sheet: &[u32],
-    sizes: &[u8; MAX_VARIABLES],
-    n: usize,
-    entries: usize,
-    target: &mut [u32],
-)
+/// The instance made from an accepted sheet that has words, in front of a target that it fits into.
+fn write_instance(sheet: &[u32], sizes: &[u8], entries: usize, target: &mut [u32])
     requires sheet_value { (sheet_fault sheet.now ≡ 0) × (1 ≤ length sheet.now) }
-    requires sizes_value { (sizes.now ≡ padded (sheet_sizes sheet.now)) × (n ≡ length (sheet_sizes sheet.now)) × (entries ≡ length sheet.now - length (entry_words_of sheet.now)) × (length (made_words sheet.now) ≤ length target.old) }
+    requires sizes_value { (sizes.now ≡ sheet_sizes sheet.now) × (entries ≡ length sheet.now - length (entry_words_of sheet.now)) × (length (made_words sheet.now) ≤ length target.old) }
     ensures { target.new ≡ sets target.old 0 (made_words sheet.now) }
 {
-    fields::write_front(target, sizes, n);
+    fields::write_front(target, sizes);
+    let n = sizes.len();
     let behind = legs::write_legs(sheet, n, target, n + 1);
-    copy_words(sheet, entries, target, behind);
+    copy_words(&sheet[entries..], target, behind);
 }
 
-// Makes the instance of a sheet: 1 to 5, then 10, before the first write.
-#[tactic(auto, using(crate::proofs::Making::empty_make))]
-pub fn make(sheet: &[u32], target: &mut [u32]) -> Answer
-    ensures returned { record { answer = result; target = target.new } ≡ make_call sheet.now target.old }
+/// Makes the instance of a sheet in front of a target, and answers the number of its words.
+///
+/// # Errors
+///
+/// The sheet's fault, then `TargetTooShort`; the target then stays as it was.
+pub fn make(sheet: &[u32], target: &mut [u32]) -> Result<usize, Refusal>
+    ensures returned { record { answer = answer_of result; target = target.new } ≡ make_call sheet.now target.old }
+    ensures within { IfOk result (λ n. n ≤ length target.new) }
 {
     // The instance of no words has none either.
     if sheet.len() == 0 {
-        return fields::success(0);
+        return Ok(0);
     }
-    let read = read_sheet(sheet);
-    let number = read.number;
-    if number != 0 {
-        return fields::refusal(number);
-    }
-    let sizes = read.sizes;
-    let n = read.variables as usize;
-    let entries = read.entries_at;
-    let long = 1 + n + 3 * count_legs(&sizes, n) as usize + (sheet.len() - entries);
+    let read = read_sheet(sheet)?;
+    let sizes: &[u8] = &read.sizes;
+    let long = 1 + sizes.len() + 3 * count_legs(sizes) as usize + (sheet.len() - read.entries_at);
     if target.len() < long {
-        return fields::refusal(10);
+        return Err(Refusal::TargetTooShort);
     }
-    write_instance(sheet, &sizes, n, entries, target);
-    fields::success(long as u64)
+    write_instance(sheet, sizes, read.entries_at, target);
+    Ok(long)
 }

@@ -1,66 +1,59 @@
-// A reader that carries the caller's words and how far it has come. Its functions are thin: the work is that of `next_word` and `next_index`, on the slice and the number.
+// A reader over a caller's words, handed on from one part of a reading to the next.
 #![tactic(auto)]
 
-pub mod word;
+ghost use Rattle.std.specs.Prelude.{◌≡◌, length};
+ghost use Rattle.std.specs.Iterator.{YieldsFirst, item_count};
 
-ghost use Rattle.std.specs.Prelude.{◌≡◌, ◌+◌, ◌≤◌, length, drop};
-ghost use Rattle.reader.specs.Next.{next_of};
+use std::marker::Model;
 
-use crate::word::Next;
-
-#[derive(Clone, Copy)]
+/// The words of a caller that are still to be read: an iterator over them that is handed on by `&mut` from one part of a
+/// reading to the next.
+#[derive(Drop)]
 pub struct Reader<'a> {
-    pub words: &'a [u32],
-    pub at: usize,
+    words: &'a [u32],
+    at: usize,
 }
 
-// The word at an index.
-#[tactic(auto, unfolding(crate::specs::Next::next_of))]
-fn next_word(words: &[u32], at: usize) -> Next
-    ensures { result ≡ next_of (drop at words.now) }
-{
-    if words.len() <= at {
-        return Next::End;
+// Clauses see the words that are left.
+impl<'a> Model for Reader<'a> {
+    ghost use Rattle.std.specs.Prelude.{ℕ, List, drop, ◌≤◌, length};
+
+    ghost Value = { List ℕ };
+
+    ghost view = { λ r. drop r.at r.words.now };
+
+    ghost invariant = { λ r. r.at ≤ length r.words.now };
+}
+
+impl<'a> Reader<'a> {
+    /// A reader of which all words are left.
+    pub fn over(words: &'a [u32]) -> Reader<'a>
+        ensures { result ≡ words.now }
+    {
+        Reader { words, at: 0 }
     }
-    Next::Word(words[at])
-}
 
-// The index behind the word at an index. Where the words end there is one more, past them.
-fn next_index(words: &[u32], at: usize) -> usize
-    requires { at ≤ length words.now }
-    ensures { result ≡ at + 1 }
-{
-    at + 1
-}
-
-// A reader that has come up to an index.
-pub fn come_to<'a>(words: &'a [u32], at: usize) -> Reader<'a>
-    ensures { (result.words ≡ words.entry) × (result.at ≡ at) }
-{
-    Reader { words, at }
-}
-
-// The word that the reader has come to.
-pub fn next<'a>(r: Reader<'a>) -> Next
-    ensures { result ≡ next_of (drop r.entry.at r.entry.words.now) }
-{
-    next_word(r.words, r.at)
-}
-
-// The reader, moved on by one word.
-pub fn moved<'a>(r: Reader<'a>) -> Reader<'a>
-    requires { r.at ≤ length r.words.now }
-    ensures { (result.words ≡ r.entry.words) × (result.at ≡ r.entry.at + 1) }
-{
-    Reader {
-        words: r.words,
-        at: next_index(r.words, r.at),
+    /// How many words are left.
+    pub fn left(&self) -> usize
+        ensures { result ≡ length self.now }
+    {
+        self.words.len() - self.at
     }
 }
 
-// The word at an index, through a reader.
-pub fn word_at(words: &[u32], at: usize) -> Next
-    ensures { result ≡ next_of (drop at words.now) }
-{
-    next(come_to(words, at))
+impl<'a> Iterator for Reader<'a> {
+    type Item = u32;
+
+    ghost next_gives = { YieldsFirst (λ rest. rest) };
+
+    ghost remaining = { item_count (λ rest. rest) };
+
+    fn next(&mut self) -> Option<u32> {
+        if self.words.len() <= self.at {
+            return None;
+        }
+        let word = self.words[self.at];
+        self.at += 1;
+        Some(word)
+    }
 }

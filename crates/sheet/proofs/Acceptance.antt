@@ -5,7 +5,8 @@ use native.Mathlib.Nat.{mul-le-mul}
 use mathlib.Core.Path.{◌≡◌, refl, sym, ap, ◌∙◌}
 use mathlib.Core.Bool.{Bool, true, false, ◌&&◌, cond, false≢true}
 use mathlib.Core.List.{List, [], ◌∷◌, map}
-use lib.ListN.{length, get_or, drop}
+use lib.ListN.{length, get_or, drop, length-map}
+use Rattle.fields.specs.Limits.{max_variables, max_entries}
 use lib.Dec.{eqb}
 use borrow.Author.Tests.{eqb-false}
 use Rattle.words.specs.Layout.{payload_of}
@@ -14,7 +15,7 @@ use Rattle.fields.specs.Entries.{Each, nil_each, cons_each, EachSize}
 use Rattle.fields.proofs.Sizes.{field_sizes}
 use Rattle.entries.specs.Entries.{entries_fault}
 use Rattle.entries.proofs.Accepting.{entries_accepted}
-use Rattle.input.proofs.Sizes.{with_size, size_payload}
+use Rattle.sheet.proofs.Located.{with_size, size_payload}
 use Rattle.input.proofs.Validating.{Headed, without_words, headed_bounds, headed_payload, headed_by}
 use Rattle.input.proofs.Acceptance.{passed}
 use Rattle.sheet.specs.Sheet.{leg_count, sheet_stations_fault, sheet_fault, points_from, stations_from, positions_of, sheet_sizes, entry_words_of}
@@ -22,7 +23,7 @@ use Rattle.sheet.specs.Phases.{good_positions, good_stations}
 use Rattle.sheet.specs.Accepted.{PlacedPoint, AcceptedSheet}
 use Rattle.sheet.proofs.Coordinates.{offset_bounded}
 use Rattle.sheet.proofs.Located.{sizes_more}
-use Rattle.sheet.proofs.Sheets.{sizes_are, sizes_number, whole_apart}
+use Rattle.sheet.proofs.Sheets.{stations_length, sizes_are, sizes_number, whole_apart}
 
 pub sheet_headed : (ws : List ℕ) → sheet_fault ws ≡ 0 → (n : ℕ) × Headed ws n
 unfolding sheet_fault
@@ -59,6 +60,13 @@ legs_bounded (d ∷ []) r = omega arith
 legs_bounded (d ∷ (e ∷ ds)) (cons_each a (cons_each b r)) =
     let m : d * e ≤ 64 = mul-le-mul {n₁ = d} {m₁ = e} {n₂ = 8} {m₂ = 8} a.1 b.1 in
     omega (arith, legs_bounded (e ∷ ds) (cons_each b r))
+
+-- stations that are good have no more legs than there may be entries
+pub legs_few : (k : ℕ) (ws : List ℕ) → k ≤ max_variables → good_stations k ws ≡ true → leg_count (map length (stations_from k ws)) ≤ max_entries
+legs_few k ws few g =
+    let n = length-map (stations_from k ws) length in
+    let l = legs_bounded (map length (stations_from k ws)) (stations_each k ws g) in
+    omega (arith, stations_length k ws)
 
 -- ---- positions
 

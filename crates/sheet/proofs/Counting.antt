@@ -1,12 +1,11 @@
 -- Counting the legs from the front: those of the sizes passed, and those still to come.
-use Prim.Native.Nat.{ℕ, suc, ◌+◌, ◌*◌, ◌≤◌, ◌<◌}
+use Prim.Native.Nat.{ℕ, suc, ◌+◌, ◌-◌, ◌*◌, ◌≤◌, ◌<◌}
 use native.Mathlib.Omega.{arith}
-use native.Mathlib.Numerals.{add-one}
 use native.Mathlib.Nat.{mul-le-mul}
-use mathlib.Core.Path.{◌≡◌, refl, sym, ◌∙◌}
+use mathlib.Core.Path.{◌≡◌, refl}
 use mathlib.Core.List.{List, [], ◌∷◌}
-use lib.ListN.{length, get_or, take, drop, length-drop}
-use lib.Seq.{drop-cons, get_or-take, length-take-le}
+use lib.ListN.{length, get_or, drop, length-drop}
+use lib.Seq.{drop-cons}
 use Rattle.sheet.specs.Sheet.{leg_count}
 
 pub product_small : (a b : ℕ) → a < 256 → b < 256 → a * b ≤ 65025
@@ -22,22 +21,15 @@ legs_last [] h = refl
 legs_last (d ∷ []) h = refl
 legs_last (d ∷ (e ∷ ds)) h = absurd (omega arith)
 
-module _ (sizes : List ℕ) (n i legs : ℕ) (limit : n ≤ length sizes) where
-  whole_length : length (take n sizes) ≡ n
-  whole_length = length-take-le n sizes limit
+-- the legs up to the size before i, and those from it on
+module _ (ds : List ℕ) (i legs : ℕ) (inv : legs + leg_count (drop (i - 1) ds) ≡ leg_count ds) where
+  pub legs_more : 1 ≤ i → i < length ds → legs + get_or ds (i - 1) 0 * get_or ds i 0 + leg_count (drop (i + 1 - 1) ds) ≡ leg_count ds
+  legs_more one h =
+      let e : i ≡ suc (i - 1) = omega arith in
+      let n : i + 1 - 1 ≡ i = omega arith in
+      let m : leg_count (drop (i - 1) ds) ≡ get_or ds (i - 1) 0 * get_or ds i 0 + leg_count (drop i ds) =
+      rw (← e) at (legs_here ds (i - 1) (omega arith)) in
+      rw n (omega arith)
 
-  pub legs_more : (a b : ℕ) → i + 1 < n → legs + leg_count (drop i (take n sizes)) ≡ leg_count (take n sizes)
-      → a ≡ get_or sizes i 0 → b ≡ get_or sizes (i + 1) 0 → legs + a * b + leg_count (drop (i + 1) (take n sizes)) ≡ leg_count (take n sizes)
-  legs_more a b h inv e f =
-      let l = whole_length in
-      let p : a ≡ get_or (take n sizes) i 0 = e ∙ sym (get_or-take n sizes i 0 (omega arith)) in
-      let q : b ≡ get_or (take n sizes) (i + 1) 0 = f ∙ sym (get_or-take n sizes (i + 1) 0 h) in
-      let m : leg_count (drop i (take n sizes)) ≡ a * b + leg_count (drop (i + 1) (take n sizes)) =
-      rw (p, q, add-one i) (legs_here (take n sizes) i (omega arith)) in
-      omega arith
-
-  pub legs_end : n ≤ i + 1 → legs + leg_count (drop i (take n sizes)) ≡ leg_count (take n sizes) → legs ≡ leg_count (take n sizes)
-  legs_end h inv =
-      let l = whole_length in
-      let z = legs_last (drop i (take n sizes)) (omega (arith, length-drop i (take n sizes))) in
-      omega arith
+  pub legs_end : length ds ≤ i → legs ≡ leg_count ds
+  legs_end h = let z = legs_last (drop (i - 1) ds) (omega (arith, length-drop (i - 1) ds)) in omega arith

@@ -12,7 +12,7 @@ use borrow.Author.Tests.{eqb-false}
 use Rattle.words.specs.Layout.{payload_of}
 use Rattle.fields.specs.Limits.{max_values}
 use Rattle.fields.specs.Front.{size_in}
-use Rattle.input.proofs.Sizes.{size_payload}
+use Rattle.sheet.proofs.Located.{size_payload}
 use Rattle.input.proofs.Validating.{headed_payload}
 use Rattle.input.proofs.Acceptance.{passed}
 use Rattle.sheet.specs.Sheet.{sheet_fault}

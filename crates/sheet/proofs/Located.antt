@@ -1,23 +1,34 @@
--- The stations of a sheet: reading one after another answers the sizes of all and where the entries start, and the fault of the whole comes apart into that of the stations and that of the entries.
-use Prim.Native.Nat.{ℕ, zero, suc, ◌+◌, ◌-◌, ◌*◌, ◌≤◌, ◌<◌, min}
-use native.Mathlib.Omega.{arith}
-use mathlib.Core.Path.{◌≡◌, refl, ap, ◌∙◌}
-use mathlib.Core.Bool.{Bool, true, false, ◌&&◌, false≢true}
-use mathlib.Core.List.{List, [], ◌∷◌, map}
-use lib.ListN.{length, drop, set, replicate, length-drop}
-use lib.Seq.{drop-drop}
-use borrow.Author.Tests.{ne_eqb}
-use Rattle.fields.specs.Limits.{max_variables, max_values}
+-- The stations of a sheet: what one that was read tells, and that reading one after another answers the sizes of all and leaves the entries' words.
+use Rattle.std.proofs.Common.{ℕ, zero, suc, ◌+◌, ◌-◌, ◌*◌, ◌≤◌, ◌<◌, ◌≡◌, Bool, true, false, ◌&&◌, cond, List, [], ◌∷◌, ◌++◌, map, length, drop, refl, sym, ap, ◌∙◌, arith, Ok, Err, append-nil}
+use Rattle.std.proofs.lemmas.List.{append_assoc, length-append, length-drop}
+use mathlib.Core.Bool.{false≢true}
+use lib.Dec.{eqb}
+use borrow.Author.Tests.{eqb-false, ne_eqb}
+use Rattle.words.specs.Layout.{payload_of}
+use Rattle.fields.specs.Limits.{max_values}
 use Rattle.fields.specs.Front.{size_in}
-use Rattle.fields.specs.Padding.{padded}
-use Rattle.reader.specs.Next.{next_of, next_by}
-use Rattle.entries.specs.declared.Got.TheVariants.{Fault}
-use Rattle.input.specs.Phases.{size_next, no_stations, refused_stations}
-use Rattle.input.proofs.Filling.{Filling, filling_start, filling_step, filling_end}
-use Rattle.input.proofs.Sizes.{Sized, with_size, sized_bounds, size_payload, size_fault}
+use Rattle.fields.specs.declared.refusals.Fault.TheVariants.{BadVariable}
+use Rattle.fields.specs.declared.refusals.Fault.{Fault}
+use Rattle.fields.proofs.Fronts.{size_some}
 use Rattle.sheet.specs.Sheet.{points_from, stations_from, behind_stations}
-use Rattle.sheet.specs.Phases.{place_next, good_positions, good_stations, stations_read}
+use Rattle.sheet.specs.Phases.{place_next, good_positions, good_stations, station_next}
 use Rattle.sheet.proofs.Coordinates.{next_inside}
+
+-- ---- a station word
+
+-- the words start with a station word of size d
+pub data Sized : List ℕ → ℕ → Type 0 where
+  with_size : {w d : ℕ} {ws : List ℕ} → 1 ≤ d → size_in w ≡ d → Sized (w ∷ ws) d
+
+-- a size is 1 to 8, and the whole payload of its word
+pub size_payload : (w d : ℕ) → size_in w ≡ d → 1 ≤ d → (payload_of w ≡ d) × (d ≤ max_values)
+size_payload w d e h =
+    let (k, p, l, m) = size_some w (λ (z : size_in w ≡ 0). let q : d ≡ 0 = sym e ∙ z in omega arith) in
+    (sym p ∙ e, omega arith)
+
+pub sized_bounds : (ws : List ℕ) (d : ℕ) → Sized ws d → (1 ≤ d) × (d ≤ max_values) × (1 ≤ length ws)
+sized_bounds [] d x' = elim x' [ ]
+sized_bounds (w ∷ ws) d (with_size h e) = let s = size_payload w d e h in omega arith
 
 -- ---- the positions of d values
 
@@ -49,11 +60,6 @@ module _ (k d : ℕ) where
       let o : 1 + 2 * d ≡ suc (2 * d) = omega arith in
       rw (ne_eqb (size_in w) 0 (omega arith), e, g, o)
 
-  pub good_broken : (ws : List ℕ) → Sized ws d → good_positions d (drop 1 ws) ≡ false → good_stations (suc k) ws ≡ false
-  unfolding good_stations
-  good_broken [] x'' g = elim x'' [ ]
-  good_broken (w ∷ ws) (with_size h e) g = rw (ne_eqb (size_in w) 0 (omega arith), e, g)
-
   pub sizes_more : (ws : List ℕ) → Sized ws d → map length (stations_from (suc k) ws) ≡ d ∷ map length (stations_from k (drop (1 + 2 * d) ws))
   unfolding stations_from
   sizes_more [] x' = elim x' [ ]
@@ -64,83 +70,75 @@ module _ (k d : ℕ) where
   behind_more [] x' = elim x' [ ]
   behind_more (w ∷ ws) (with_size h e) = rw (size_payload w d e h).0
 
-pub good_none : (k f : ℕ) (ws : List ℕ) → Fault f ≡ size_next ws → good_stations (suc k) ws ≡ false
-unfolding good_stations next_by next_of
-good_none k f [] e = refl
-good_none k f (w ∷ ws) e = rw (size_fault w f e)
+-- ---- what the reader of one station tells
 
--- ---- the loop over them: i are read, up to the word `at`
+-- a size that it answers
+pub station_sized : (ws : List ℕ) (d : ℕ) → Ok d ≡ station_next ws → Sized ws d × (good_positions d (drop 1 ws) ≡ true)
+unfolding station_next
+station_sized [] d e = let z : ◌≡◌ {A = ℕ} 0 1 = cc in absurd (omega arith)
+station_sized (w ∷ ws) d e = go (eqb (size_in w) 0) (good_positions (size_in w) ws) refl refl e
+  where
+    go : (a b : Bool) → eqb (size_in w) 0 ≡ a → good_positions (size_in w) ws ≡ b
+        → Ok d ≡ cond a (Err BadVariable) (cond b (Ok (size_in w)) (Err BadVariable)) → Sized (w ∷ ws) d × (good_positions d ws ≡ true)
+    go true b f g h = let z : ◌≡◌ {A = ℕ} 0 1 = cc in absurd (omega arith)
+    go false false f g h = let z : ◌≡◌ {A = ℕ} 0 1 = cc in absurd (omega arith)
+    go false true f g h =
+        let o : size_in w ≡ d = cc in
+        let n = eqb-false (size_in w) 0 f in
+        (with_size (omega arith) o, rw o at g)
 
-pub record StationsSoFar (ws : List ℕ) (n : ℕ) (sizes : List ℕ) (at i : ℕ) : Type 0 where
-  pub below : i ≤ n
-  pub inside : at ≤ length ws
-  pub good : good_stations n (drop 1 ws) ≡ good_stations (n - i) (drop at ws)
-  pub filled : Filling (map length (stations_from n (drop 1 ws))) sizes i (map length (stations_from (n - i) (drop at ws)))
-  pub behind : behind_stations n (drop 1 ws) ≡ behind_stations (n - i) (drop at ws)
+-- a fault
+pub station_broken : (k : ℕ) (f : Fault) (ws : List ℕ) → Err f ≡ station_next ws → (f ≡ BadVariable) × (good_stations (suc k) ws ≡ false)
+unfolding station_next good_stations
+station_broken k f [] e = let o : f ≡ BadVariable = cc in (o, refl)
+station_broken k f (w ∷ ws) e = go (eqb (size_in w) 0) (good_positions (size_in w) ws) e
+  where
+    go : (a b : Bool) → Err f ≡ cond a (Err BadVariable) (cond b (Ok (size_in w)) (Err BadVariable))
+        → (f ≡ BadVariable) × (cond a false (b && good_stations k (drop (2 * size_in w) ws)) ≡ false)
+    go true b h = let o : f ≡ BadVariable = cc in (o, refl)
+    go false false h = let o : f ≡ BadVariable = cc in (o, refl)
+    go false true h = let z : ◌≡◌ {A = ℕ} 0 1 = cc in absurd (omega arith)
 
-pub stations_start : (ws : List ℕ) (n : ℕ) → 1 ≤ length ws → StationsSoFar ws n (replicate max_variables 1) 1 0
-stations_start ws n h =
+-- ---- i of n stations are read, of which these are the sizes, and the words behind them are left
+
+pub record StationsSoFar (whole ws : List ℕ) (n i : ℕ) (sizes : List ℕ) : Type 0 where
+  pub counted : length sizes ≡ i
+  pub good : good_stations n whole ≡ good_stations (n - i) ws
+  pub sized : map length (stations_from n whole) ≡ sizes ++ map length (stations_from (n - i) ws)
+  pub behind : behind_stations n whole ≡ behind_stations (n - i) ws
+
+pub stations_start : (ws : List ℕ) (n : ℕ) → StationsSoFar ws ws n 0 []
+stations_start ws n =
     let e : n - 0 ≡ n = omega arith in
-    record {
-      below = omega arith;
-      inside = h;
-      good = rw e;
-      filled = rw e (filling_start (map length (stations_from n (drop 1 ws))));
-      behind = rw e;
-    }
+    record { counted = refl; good = rw e; sized = rw e; behind = rw e }
 
--- no words have no stations
-pub stations_none : (ws : List ℕ) (n : ℕ) → min 1 n ≤ length ws → length ws ≡ 0 → no_stations ≡ stations_read n ws
-unfolding stations_read good_stations stations_from behind_stations padded
-stations_none [] zero h e = refl
-stations_none [] (suc n) h e = absurd (omega arith)
-stations_none (w ∷ ws) n h e = absurd (omega arith)
+module _ (whole ws : List ℕ) (n i : ℕ) (sizes : List ℕ) (inv : StationsSoFar whole ws n i sizes) where
+  pub stations_fault : (f : Fault) → i < n → Err f ≡ station_next ws → (f ≡ BadVariable) × (good_stations n whole ≡ false)
+  stations_fault f h e =
+      let more : n - i ≡ suc (n - (i + 1)) = omega arith in
+      let b = station_broken (n - (i + 1)) f ws e in
+      (b.0, inv.good ∙ ap (λ k. good_stations k ws) more ∙ b.1)
 
-module _ (ws : List ℕ) (n : ℕ) (sizes : List ℕ) (at i : ℕ) (limit : n ≤ max_variables) (inv : StationsSoFar ws n sizes at i) where
-  pub sized_inside : (d : ℕ) → Sized (drop at ws) d → (at + 1 ≤ length ws) × (1 ≤ d) × (d ≤ max_values)
-  sized_inside d s =
-      let b = sized_bounds (drop at ws) d s in
-      let h = inv.inside in
-      omega (arith, length-drop at ws)
+  pub stations_more : (d : ℕ) → i < n → Ok d ≡ station_next ws → StationsSoFar whole (drop (1 + 2 * d) ws) n (i + 1) (sizes ++ d ∷ [])
+  stations_more d h e =
+      let more : n - i ≡ suc (n - (i + 1)) = omega arith in
+      let (s, g) = station_sized ws d e in
+      record {
+        counted = omega (arith, inv.counted, length-append sizes (d ∷ []));
+        good = inv.good ∙ ap (λ k. good_stations k ws) more ∙ good_more (n - (i + 1)) d ws s g;
+        sized =
+            inv.sized
+            ∙ ap (λ k. sizes ++ map length (stations_from k ws)) more
+            ∙ ap (λ xs. sizes ++ xs) (sizes_more (n - (i + 1)) d ws s)
+            ∙ sym (append_assoc sizes (d ∷ []) (map length (stations_from (n - (i + 1)) (drop (1 + 2 * d) ws))));
+        behind = inv.behind ∙ ap (λ k. behind_stations k ws) more ∙ behind_more (n - (i + 1)) d ws s;
+      }
 
-  pub positions_end : (d : ℕ) → at + 1 ≤ length ws → good_positions d (drop (at + 1) ws) ≡ true → at + (1 + 2 * d) ≤ length ws
-  positions_end d h g = omega (arith, positions_inside d (drop (at + 1) ws) g, length-drop (at + 1) ws)
-
-  refused_by : good_stations n (drop 1 ws) ≡ false → refused_stations 2 ≡ stations_read n ws
-  unfolding stations_read
-  refused_by l = rw l
-
-  module _ (h : i < n) where
-    more_left : n - i ≡ suc (n - (i + 1))
-    more_left = omega arith
-
-    pub stations_fault_lem : (f : ℕ) → (f ≡ 2) × (good_stations (suc (n - (i + 1))) (drop at ws) ≡ false) → refused_stations f ≡ stations_read n ws
-    stations_fault_lem f (e, g) = ap refused_stations e ∙ refused_by (inv.good ∙ ap (λ k. good_stations k (drop at ws)) more_left ∙ g)
-
-    pub stations_more : (d : ℕ) → Sized (drop at ws) d → good_positions d (drop (at + 1) ws) ≡ true
-        → StationsSoFar ws n (set sizes i d) (at + (1 + 2 * d)) (i + 1)
-    stations_more d s g =
-        let e : drop (1 + 2 * d) (drop at ws) ≡ drop (at + (1 + 2 * d)) ws = drop-drop (1 + 2 * d) at ws in
-        let b = sized_inside d s in
-        record {
-          below = omega arith;
-          inside = positions_end d b.0 g;
-          good = rw (← e, ← good_more (n - (i + 1)) d (drop at ws) s (ap (good_positions d) (drop-drop 1 at ws) ∙ g), ← more_left) inv.good;
-          filled =
-              filling_step (map length (stations_from n (drop 1 ws))) sizes i d (map length (stations_from (n - (i + 1)) (drop (at + (1 + 2 * d)) ws)))
-              (omega arith) (rw (← e, ← sizes_more (n - (i + 1)) d (drop at ws) s, ← more_left) inv.filled);
-          behind = rw (← e, ← behind_more (n - (i + 1)) d (drop at ws) s, ← more_left) inv.behind;
-        }
-
-  pub stations_end : n ≤ i → record { number = 0; behind = at; sizes = sizes } ≡ stations_read n ws
-  unfolding stations_read good_stations stations_from behind_stations
-  stations_end h =
-      let b = inv.below in
-      let e : i ≡ n = omega arith in
-      let z : n - i ≡ 0 = omega arith in
-      let g : good_stations n (drop 1 ws) ≡ true = inv.good ∙ ap (λ k. good_stations k (drop at ws)) z in
-      let f : Filling (map length (stations_from n (drop 1 ws))) sizes n [] = rw (z, e) at inv.filled in
-      let q : behind_stations n (drop 1 ws) ≡ drop at ws = inv.behind ∙ ap (λ k. behind_stations k (drop at ws)) z in
-      let l = inv.inside in
-      let o : length ws - length (drop at ws) ≡ at = omega (arith, length-drop at ws) in
-      rw (g, q, o, ← filling_end (map length (stations_from n (drop 1 ws))) sizes n limit f)
+  pub stations_end : n ≤ i → i ≤ n → (good_stations n whole ≡ true) × (sizes ≡ map length (stations_from n whole)) × (ws ≡ behind_stations n whole)
+  unfolding good_stations stations_from behind_stations
+  stations_end h l =
+      let z : n - i ≡ 0 = omega arith in (
+        inv.good ∙ ap (λ k. good_stations k ws) z,
+        sym (inv.sized ∙ ap (λ k. sizes ++ map length (stations_from k ws)) z ∙ append-nil sizes),
+        sym (inv.behind ∙ ap (λ k. behind_stations k ws) z),
+      )

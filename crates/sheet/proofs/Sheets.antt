@@ -2,34 +2,29 @@
 use Prim.Native.Nat.{ℕ, zero, suc, ◌+◌, ◌-◌, ◌*◌, ◌%◌, ◌≤◌}
 use native.Mathlib.Omega.{arith}
 use native.Mathlib.Decide.{dec_le}
-use mathlib.Core.Path.{◌≡◌, refl, sym, ap, ap₂, ◌∙◌}
+use mathlib.Core.Path.{◌≡◌, refl, sym, subst, ap, ap₂, ◌∙◌}
 use mathlib.Core.Bool.{Bool, true, false, ◌&&◌, cond}
 use mathlib.Core.List.{List, [], ◌∷◌, ◌++◌, map, append-nil}
-use lib.ListN.{length, get_or, take, drop, length-map, length-drop, drop_of_length-le}
+use mathlib.Core.Option.{Option, none, some}
+use lib.ListN.{length, get_or, drop, length-map, length-drop, drop_of_length-le}
 use lib.Seq.{append_snoc, drop-drop, drop-length}
 use lib.Dec.{eqb}
 use borrow.Author.Tests.{eq-eqb, eqb-false, ne_eqb}
+use Rattle.std.proofs.Common.{Ok, Err}
 use Rattle.words.specs.Layout.{payload_of}
-use Rattle.fields.specs.Limits.{max_variables}
-use Rattle.fields.specs.Front.{size_in}
-use Rattle.fields.specs.Padding.{padded}
-use Rattle.fields.proofs.Padding.{padded-length, padded-front}
-use Rattle.fields.proofs.Faults.{no_fault, some-fault}
-use Rattle.reader.specs.Next.{next_of, next_by}
-use Rattle.entries.specs.declared.Got.{Got}
-use Rattle.entries.specs.declared.Got.TheVariants.{Number, Fault}
+use Rattle.fields.specs.Front.{head_in, headed, size_in}
+use Rattle.fields.specs.Numbers.{fault_number}
+use Rattle.fields.specs.declared.refusals.Fault.{Fault}
+use Rattle.fields.specs.declared.refusals.Fault.TheVariants.{BadHead, BadVariable, BadEntry, CostTooHigh, TooManyEntries}
 use Rattle.entries.specs.Entries.{entries_fault}
-use Rattle.entries.specs.Scan.{scan_got}
-use Rattle.entries.proofs.Scanning.{got_fault, got_number}
-use Rattle.input.specs.declared.Stations.{Stations}
-use Rattle.input.specs.Phases.{head_next}
-use Rattle.input.proofs.Sizes.{with_size, stations_taken, stations_refused}
-use Rattle.input.proofs.Validating.{Headed, without_words, with_head, headed_bounds, headed_payload, head_one, headless}
-use Rattle.sheet.specs.declared.SheetRead.{SheetRead}
+use Rattle.input.proofs.Validating.{Headed, without_words, with_head, headed_payload}
+use Rattle.input.specs.Heads.{head_read}
+use Rattle.sheet.specs.declared.Sheet.{Sheet}
 use Rattle.sheet.specs.Sheet.{is_easting, is_northing, leg_count, sheet_stations_fault, sheet_fault, stations_from, behind_stations, sheet_sizes, entry_words_of}
-use Rattle.sheet.specs.Phases.{place_next, good_positions, good_stations, stations_read}
-use Rattle.sheet.specs.Calls.{refused_sheet, sheet_call}
-use Rattle.sheet.proofs.Located.{sizes_more, behind_more}
+use Rattle.sheet.specs.Phases.{place_next, good_positions, good_stations}
+use Rattle.sheet.specs.Calls.{sheet_call}
+use Rattle.sheet.specs.Reads.{read_of}
+use Rattle.sheet.proofs.Located.{with_size, sizes_more, behind_more}
 
 -- ---- the coordinates of d values
 
@@ -54,13 +49,11 @@ module _ (k : ℕ) (sizes : List ℕ) where
 
   east : (m : ℕ) (ws : List ℕ) → suc m % 2 ≡ 0
       → sheet_stations_fault k (suc m) sizes ws ≡ cond (place_next 8 ws) (sheet_stations_fault k m sizes (drop 1 ws)) 2
-  unfolding next_by next_of
   east m [] e = ends m
   east m (w ∷ ws) e = goes_on m w ws ∙ rw (eq-eqb (suc m % 2) 0 e)
 
   north : (m : ℕ) (ws : List ℕ) → suc m % 2 ≡ 1
       → sheet_stations_fault k (suc m) sizes ws ≡ cond (place_next 9 ws) (sheet_stations_fault k m sizes (drop 1 ws)) 2
-  unfolding next_by next_of
   north m [] e = ends m
   north m (w ∷ ws) e = goes_on m w ws ∙ rw (ne_eqb (suc m % 2) 0 (omega arith))
 
@@ -171,6 +164,9 @@ entries_start ws =
     let f : behind_stations (payload_of (get_or ws 0 0)) (drop 1 ws) ≡ drop (1 + j) ws = e ∙ drop-drop j 1 ws in
     rw f (suffix_at ws (1 + j))
 
+words_within : (ws : List ℕ) → length (entry_words_of ws) ≤ length ws
+words_within ws = omega (arith, ap length (entries_start ws), length-drop (length ws - length (entry_words_of ws)) ws)
+
 -- ---- the whole
 
 pub stations_length : (k : ℕ) (ws : List ℕ) → length (stations_from k ws) ≡ k
@@ -199,110 +195,71 @@ module _ (ws : List ℕ) (n : ℕ) (h : Headed ws n) where
       apart n [] without_words = refl
       apart n (w ∷ ws) (with_head e) = rw e (sheet_apart n [] ws)
 
-  module _ (read : Stations) (r : read ≡ stations_read n ws) where
-    -- the stations as they are read without a fault
-    found : Stations
-    found =
-        record {
-          number = 0;
-          behind = length ws - length (behind_stations n (drop 1 ws));
-          sizes = padded (map length (stations_from n (drop 1 ws)));
-        }
+-- ---- what the reader's answer tells
 
-    pub stations_broken : (read.number ≡ 0 → ⊥) → refused_sheet read.number ≡ sheet_call ws
-    unfolding sheet_call stations_read found
-    stations_broken b =
-        let (g, k) = stations_refused (good_stations n (drop 1 ws)) found refl read r b in
-        let f : sheet_fault ws ≡ 2 = whole_apart ∙ rw g in
-        rw (f, k)
+-- a fault has a number
+pub fault_some : (f : Fault) → fault_number f ≡ 0 → ⊥
+fault_some BadHead e = omega arith
+fault_some BadVariable e = omega arith
+fault_some BadEntry e = omega arith
+fault_some CostTooHigh e = omega arith
+fault_some TooManyEntries e = omega arith
 
-    module _ (z : read.number ≡ 0) where
-      is_found : (good_stations n (drop 1 ws) ≡ true) × (read ≡ found)
-      unfolding stations_read found
-      is_found = stations_taken (good_stations n (drop 1 ws)) found refl read r z
+pub no_head : (ws : List ℕ) (f : Fault) → Err f ≡ head_read ws → fault_number f ≡ sheet_fault ws
+unfolding sheet_fault headed
+no_head [] f e = let z : ◌≡◌ {A = ℕ} 0 1 = cc in absurd (omega arith)
+no_head (w ∷ ws) f e = go (head_in w) e
+  where
+    go : (o : Option ℕ) → Err f ≡ headed (Err BadHead) Ok o → fault_number f ≡ headed 1 (λ n. sheet_stations_fault n 0 [] ws) o
+    go none h = let o : f ≡ BadHead = cc in rw o
+    go (some n) h = let z : ◌≡◌ {A = ℕ} 0 1 = cc in absurd (omega arith)
 
-      pub read_sizes : read.sizes ≡ padded (sheet_sizes ws)
-      unfolding found
-      read_sizes = rw sizes_are (ap (λ (x : Stations). x.sizes) is_found.1)
+pub headed_of : (ws : List ℕ) (n : ℕ) → Ok n ≡ head_read ws → Headed ws n
+unfolding headed
+headed_of [] n e = let z : 0 ≡ n = cc in subst (λ k. Headed [] k) z without_words
+headed_of (w ∷ ws) n e = with_head (go (head_in w) e)
+  where
+    go : (o : Option ℕ) → Ok n ≡ headed (Err BadHead) Ok o → o ≡ some n
+    go none h = let z : ◌≡◌ {A = ℕ} 0 1 = cc in absurd (omega arith)
+    go (some k) h = let z : k ≡ n = cc in ap some z
 
-      pub read_behind : read.behind ≡ length ws - length (entry_words_of ws)
-      unfolding found
-      read_behind = rw entries_are (ap (λ (x : Stations). x.behind) is_found.1)
+-- good stations have no number
+pub stations_fine : (b : Bool) → ◌≡◌ {A = ℕ} 0 (cond b 0 2) → b ≡ true
+stations_fine true e = refl
+stations_fine false e = absurd (omega arith)
 
-      -- the entries start within the words or at their end
-      pub entries_within : read.behind ≤ length ws
-      entries_within = rw read_behind (omega arith)
+-- the head is read, and these words are left
+module _ (ws : List ℕ) (n : ℕ) (h : Headed ws n) (rest : List ℕ) (passed : rest ≡ drop 1 ws) where
+  pub stations_broken : (f : Fault) → fault_number f ≡ cond (good_stations n rest) 0 2 → fault_number f ≡ sheet_fault ws
+  stations_broken f e = go (good_stations n (drop 1 ws)) refl (e ∙ ap (λ xs. cond (good_stations n xs) 0 2) passed)
+    where
+      go : (b : Bool) → good_stations n (drop 1 ws) ≡ b → fault_number f ≡ cond b 0 2 → fault_number f ≡ sheet_fault ws
+      go true g k = absurd (fault_some f k)
+      go false g k = k ∙ sym (whole_apart ws n h ∙ rw g)
 
-      pub sizes_long : n ≤ length read.sizes
-      sizes_long =
-          let b = headed_bounds ws n h in
-          let l : length (sheet_sizes ws) ≤ max_variables = omega (arith, sizes_number) in
-          rw read_sizes (omega (arith, padded-length (sheet_sizes ws) l))
+  -- so are the stations, and these words are left
+  module _ (left : List ℕ) (behind : left ≡ behind_stations n rest) where
+    pub entries_left : (left ≡ entry_words_of ws) × (length left ≤ length ws)
+    entries_left =
+        let q : left ≡ entry_words_of ws = behind ∙ ap (behind_stations n) passed ∙ sym (entries_are ws n h) in
+        (q, omega (arith, ap length q, words_within ws))
 
-      front : take n read.sizes ≡ sheet_sizes ws
-      front = ap (take n) read_sizes ∙ padded-front (sheet_sizes ws) n sizes_number
+    module _ (sizes : List ℕ) (found : sizes ≡ map length (stations_from n rest)) (good : good_stations n rest ≡ true) where
+      pub sizes_read : sizes ≡ sheet_sizes ws
+      sizes_read = found ∙ ap (λ xs. map length (stations_from n xs)) passed ∙ sym (sizes_are ws n h)
 
-      sheet_is : sheet_fault ws ≡ entries_part (sheet_sizes ws) (entry_words_of ws)
-      sheet_is = whole_apart ∙ rw is_found.0
+      pub scanned : (k legs : ℕ) (xs ys : List ℕ) → xs ≡ sizes → legs ≡ leg_count xs → ys ≡ sizes → k ≡ entries_fault ys 0 legs left → k ≡ sheet_fault ws
+      scanned k legs xs ys x l y e =
+          let g : good_stations n (drop 1 ws) ≡ true = ap (good_stations n) (sym passed) ∙ good in
+          let whole : sheet_fault ws ≡ entries_part (sheet_sizes ws) (entry_words_of ws) = whole_apart ws n h ∙ rw g in
+          e ∙ rw (y, l, x, sizes_read, entries_left.0) (sym whole)
 
-      module _ (legs : ℕ) (l : legs ≡ leg_count (take n read.sizes)) (got : Got)
-          (s : got ≡ scan_got (take n read.sizes) 0 legs (drop read.behind ws)) where
-        whole : scan_got (take n read.sizes) 0 legs (drop read.behind ws) ≡ scan_got (sheet_sizes ws) 0 (leg_count (sheet_sizes ws)) (entry_words_of ws)
-        whole = rw (l, front, read_behind, entries_start ws)
+-- the fault alone makes the whole answer, and where there is none the sizes and the place of the entries
+pub reads_fault : (ws : List ℕ) (f : Fault) → fault_number f ≡ sheet_fault ws → read_of (Err f) ≡ sheet_call ws
+unfolding sheet_call
+reads_fault ws f e = rw (← e, ne_eqb (fault_number f) 0 (fault_some f))
 
-        pub scan_broken : (k : ℕ) → got ≡ Fault k → refused_sheet k ≡ sheet_call ws
-        unfolding sheet_call
-        scan_broken k e =
-            let f = got_fault (sheet_sizes ws) 0 (leg_count (sheet_sizes ws)) (entry_words_of ws) k (sym e ∙ s ∙ whole) in
-            let i : sheet_fault ws ≡ k = sheet_is ∙ f.0 in
-            rw (i, ne_eqb k 0 f.1)
-
-        pub scan_good : (count : ℕ) → got ≡ Number count
-            → record { number = 0; variables = n; entries_at = read.behind; sizes = read.sizes } ≡ sheet_call ws
-        unfolding sheet_call
-        scan_good count e =
-            let f = got_number (sheet_sizes ws) 0 (leg_count (sheet_sizes ws)) (entry_words_of ws) count (sym e ∙ s ∙ whole) in
-            let i : sheet_fault ws ≡ 0 = sheet_is ∙ f.0 in
-            rw (i, sizes_number, ← read_behind, ← read_sizes)
-
-no_head_one : (ws : List ℕ) (f : ℕ) → Fault f ≡ head_next ws → refused_sheet 1 ≡ sheet_call ws
-unfolding sheet_call sheet_fault next_by next_of
-no_head_one [] f e = let z : ◌≡◌ {A = ℕ} 0 1 = cc in absurd (omega arith)
-no_head_one (w ∷ ws) f e = rw (headless (λ n. sheet_stations_fault n 0 [] ws) w f e)
-
-pub no_head : (ws : List ℕ) (f : ℕ) → Fault f ≡ head_next ws → refused_sheet f ≡ sheet_call ws
-no_head ws f e = ap refused_sheet (head_one ws f e) ∙ no_head_one ws f e
-
--- ---- what the answer tells
-
--- an answer without a number
-pub record GoodRead (ws : List ℕ) (r : SheetRead) : Type 0 where
-  pub fine : sheet_fault ws ≡ 0
-  pub variables : r.variables ≡ length (sheet_sizes ws)
-  pub entries : r.entries_at ≡ length ws - length (entry_words_of ws)
-  pub sizes : r.sizes ≡ padded (sheet_sizes ws)
-
-module _ (ws : List ℕ) (r : SheetRead) (e : r ≡ sheet_call ws) where
-  fine : SheetRead
-  fine =
-      record {
-        number = 0;
-        variables = length (sheet_sizes ws);
-        entries_at = length ws - length (entry_words_of ws);
-        sizes = padded (sheet_sizes ws);
-      }
-
-  pub good_read : r.number ≡ 0 → GoodRead ws r
-  unfolding sheet_call fine
-  good_read z =
-      let (f, q) = no_fault (λ (x : SheetRead). x.number) fine refused_sheet (sheet_fault ws) refl refl r e z in
-      record {
-        fine = f;
-        variables = ap (λ (x : SheetRead). x.variables) q;
-        entries = ap (λ (x : SheetRead). x.entries_at) q;
-        sizes = ap (λ (x : SheetRead). x.sizes) q;
-      }
-
-  pub bad_read : (r.number ≡ 0 → ⊥) → (eqb (sheet_fault ws) 0 ≡ false) × (r.number ≡ sheet_fault ws)
-  unfolding sheet_call fine
-  bad_read n = some-fault (λ (x : SheetRead). x.number) fine refused_sheet (sheet_fault ws) refl refl r e n
+pub reads_sheet : (ws : List ℕ) (s : Sheet) → sheet_fault ws ≡ 0 → s.sizes.items ≡ sheet_sizes ws → s.entries_at ≡ length ws - length (entry_words_of ws)
+    → read_of (Ok s) ≡ sheet_call ws
+unfolding sheet_call
+reads_sheet ws s e d f = rw (e, d, f)

@@ -3,8 +3,14 @@ use Rattle.std.specs.Prelude.{ℕ, ◌-◌, cond, List, [], length, get_or, repl
 use Rattle.fields.specs.Limits.{max_variables}
 use Rattle.fields.specs.Padding.{padded}
 use Rattle.distance.specs.Metres.{metres_between}
-use Rattle.sheet.specs.declared.SheetRead.{SheetRead}
 use Rattle.sheet.specs.Sheet.{Point, sheet_fault, sheet_sizes, positions_of, entry_words_of}
+
+-- a sheet's number (0: accepted), its variables, the index of its first entry word, and the sizes of twelve variables, those it lacks being 1
+pub record SheetRead : Type 0 where
+  pub number : ℕ
+  pub variables : ℕ
+  pub entries_at : ℕ
+  pub sizes : List ℕ
 
 abbrev pub refused_sheet : ℕ → SheetRead
 refused_sheet k = record { number = k; variables = 0; entries_at = 0; sizes = replicate max_variables 0 }

@@ -4,3 +4,4 @@ pub mod Phases
 pub mod Accepted
 pub mod Calls
 pub mod Places
+pub mod Reads

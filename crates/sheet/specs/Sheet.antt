@@ -1,7 +1,6 @@
 -- Sheets: as instances, with an easting and a northing for each value (document 01: spot) behind its station word.
 use Rattle.std.specs.Prelude.{ℕ, zero, suc, ◌+◌, ◌*◌, ◌%◌, Bool, true, false, cond, List, [], ◌∷◌, ◌++◌, map, length, get_or, drop, eqb}
-use Rattle.words.specs.declared.Coordinate.{Coordinate}
-use Rattle.words.specs.declared.Coordinate.TheVariants.{At, Outside}
+use Rattle.std.specs.Prelude.{Option, Some, None}
 use Rattle.words.specs.Layout.{kind_of, payload_of}
 use Rattle.words.specs.Meaning.{coordinate_of}
 use Rattle.fields.specs.Front.{head_in, headed, size_in}
@@ -19,18 +18,18 @@ easting_kind = 8
 abbrev pub northing_kind : ℕ
 northing_kind = 9
 
--- the coordinate of a word of kind k; Outside if the word is of another kind
-unfoldable pub coordinate_in : ℕ → ℕ → Coordinate
-coordinate_in k w = cond (eqb (kind_of w) k) (coordinate_of (payload_of w)) Outside
+-- the coordinate of a word of kind k; None if the word is of another kind
+unfoldable pub coordinate_in : ℕ → ℕ → Option ℕ
+coordinate_in k w = cond (eqb (kind_of w) k) (coordinate_of (payload_of w)) None
 
 -- a coordinate within the range, and its offset
-unfoldable pub is_place : Coordinate → Bool
-is_place (At o) = true
-is_place Outside = false
+unfoldable pub is_place : Option ℕ → Bool
+is_place (Some o) = true
+is_place None = false
 
-unfoldable pub offset_in : Coordinate → ℕ
-offset_in (At o) = o
-offset_in Outside = 0
+unfoldable pub offset_in : Option ℕ → ℕ
+offset_in (Some o) = o
+offset_in None = 0
 
 abbrev pub offset_of : ℕ → ℕ → ℕ
 offset_of k w = offset_in (coordinate_in k w)

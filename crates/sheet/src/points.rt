@@ -7,26 +7,25 @@ ghost use Rattle.sheet.specs.Accepted.{PlacedPoint};
 ghost use Rattle.sheet.specs.Places.{point_of, point_at};
 
 use crate::Place;
-use words::Coordinate;
 
-// Where the values of one variable stand in a sheet: the index of the first's easting, and their number.
+/// Where the values of one variable stand in a sheet: the index of the first's easting, and their number.
 #[derive(Clone, Copy)]
 pub struct Values {
     pub at: usize,
     pub size: usize,
 }
 
-// The kinds of coordinate words.
+/// The kinds of coordinate words.
 pub const EASTING: u32 = 8;
 
 pub const NORTHING: u32 = 9;
 
-// The coordinate of a word of a kind; Outside for a word of another kind.
-pub fn coordinate(kind: u32, w: u32) -> Coordinate
+/// The coordinate of a word of a kind; none for a word of another kind.
+pub fn coordinate(kind: u32, w: u32) -> Option<u32>
     ensures { result ≡ coordinate_in kind w }
 {
     if words::kind(w) != kind {
-        return Coordinate::Outside;
+        return None;
     }
     words::place(words::payload(w))
 }
@@ -36,8 +35,8 @@ fn offset(kind: u32, w: u32) -> u32
 {
     let c = coordinate(kind, w);
     match c {
-        Coordinate::At(o) => o,
-        Coordinate::Outside => 0,
+        Some(o) => o,
+        None => 0,
     }
 }
 
@@ -53,7 +52,7 @@ pub fn place_at(sheet: &[u32], at: usize) -> Place
     }
 }
 
-// The values of the station whose size word stands at an index.
+/// The values of the station whose size word stands at an index.
 pub fn values_at(sheet: &[u32], from: usize) -> Values
     requires { from < length sheet.now }
     ensures { (result.at ≡ from + 1) × (result.size ≡ payload_of (get_or sheet.now from 0)) × (result.size < 268435456) }

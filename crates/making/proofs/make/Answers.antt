@@ -1,57 +1,38 @@
 -- `make` answers what its definition says: the sheet's fault, 10 where the reckoned length does not fit, else the instance.
-use native.Mathlib.Omega.{arith}
-use Rattle.fields.proofs.Padding.{sizes_twelve}
-use Rattle.sheet.proofs.Sheets.{good_read}
-use Rattle.making.proofs.Making.{measure, long_is, refused_make, short_make, good_make}
+use Rattle.std.proofs.Common.{◌≡◌, ◌∙◌, ap, refl, sym, Err, arith, rules}
+use Rattle.fields.specs.declared.refusals.Refusal.TheVariants.{Input}
+use Rattle.fields.specs.Answers.{answer_of}
+use Rattle.making.proofs.Making.{long_is, empty_make, refused_make, short_make, good_make}
 use Rattle.making.proofs.make.Goals as goal
 
-pub returns-then-number-ne0 : goal.returns-then-number-ne0
-returns-then-number-ne0 c =
-    record {
-      returned = let a = c.args in
-          let r = c.read_sheet-read in
-          refused_make a.sheet.now a.target.now r.result _ r.ensures.returned c.if-number-ne0.true c.refusal.ensures;
-    }
+pub returns-then-sheet-eq0-clause-returned : goal.returns-then-sheet-eq0-clause-returned
+returns-then-sheet-eq0-clause-returned c = empty_make c.args.sheet.now c.args.target.now _ c.if-sheet-eq0.true refl
 
-pub count_legs-requires : goal.count_legs-requires
-count_legs-requires c =
+pub returns-in_err-read-clause-returned : goal.returns-in_err-read-clause-returned
+returns-in_err-read-clause-returned c =
+    let is : c.from_residual.result ≡ Err (Input c.in_err-read.field-0.0) = search rules in
+    refused_make c.args.sheet.now c.args.target.now _ _ c.in_err-read.ensures.fault (ap answer_of is)
+
+pub returns-then-target-long-clause-returned : goal.returns-then-target-long-clause-returned
+returns-then-target-long-clause-returned c =
     let a = c.args in
-    let r = c.read_sheet-read in
-    let g = good_read a.sheet.now r.result r.ensures.returned c.if-number-ne0.false in
-    let m = measure a.sheet.now _ _ g.fine (omega arith) g.variables g.entries in
-    (m.few, omega (arith, m.few, sizes_twelve _ r.result.sizes g.sizes (omega (arith, m.few, g.variables))))
+    let r = c.in_ok-read.ensures in
+    let e =
+    long_is a.sheet.now _ _ _ (sym r.fault) (omega arith) (c.deref-sizes.ensures.0 ∙ r.accepted.0) r.accepted.1 c.count_legs.ensures.0 in
+    short_make a.sheet.now a.target.now _ _ (sym r.fault) e c.if-target-long.true refl
 
-pub overflow_sub-long : goal.overflow_sub-long
-overflow_sub-long c =
+pub write_instance-requires-clause-sizes_value : goal.write_instance-requires-clause-sizes_value
+write_instance-requires-clause-sizes_value c =
     let a = c.args in
-    let r = c.read_sheet-read in
-    let g = good_read a.sheet.now r.result r.ensures.returned c.if-number-ne0.false in
-    (measure a.sheet.now _ _ g.fine (omega arith) g.variables g.entries).within
+    let r = c.in_ok-read.ensures in
+    let e =
+    long_is a.sheet.now _ _ _ (sym r.fault) (omega arith) (c.deref-sizes.ensures.0 ∙ r.accepted.0) r.accepted.1 c.count_legs.ensures.0 in
+    (c.deref-sizes.ensures.0 ∙ r.accepted.0, r.accepted.1, omega (arith, e, c.if-target-long.false))
 
-pub returns-then-target-long : goal.returns-then-target-long
-returns-then-target-long c =
-    record {
-      returned = let a = c.args in
-          let r = c.read_sheet-read in
-          let g = good_read a.sheet.now r.result r.ensures.returned c.if-number-ne0.false in
-          let e = long_is a.sheet.now r.result _ g (omega arith) c.count_legs.ensures.0 in
-          short_make a.sheet.now a.target.now _ _ g.fine e c.if-target-long.true c.refusal-then-target-long.ensures;
-    }
-
-pub write_instance-requires : goal.write_instance-requires
-write_instance-requires c =
+pub returns-clause-returned : goal.returns-clause-returned
+returns-clause-returned c =
     let a = c.args in
-    let r = c.read_sheet-read in
-    let g = good_read a.sheet.now r.result r.ensures.returned c.if-number-ne0.false in
-    let e = long_is a.sheet.now r.result _ g (omega arith) c.count_legs.ensures.0 in
-    record { sheet_value = (g.fine, omega arith); sizes_value = (g.sizes, g.variables, g.entries, omega (arith, e, c.if-target-long.false)) }
-
-pub returns : goal.returns
-returns c =
-    record {
-      returned = let a = c.args in
-          let r = c.read_sheet-read in
-          let g = good_read a.sheet.now r.result r.ensures.returned c.if-number-ne0.false in
-          let e = long_is a.sheet.now r.result _ g (omega arith) c.count_legs.ensures.0 in
-          good_make a.sheet.now a.target.now _ _ _ g.fine e c.if-target-long.false c.write_instance.ensures c.success-2.ensures;
-    }
+    let r = c.in_ok-read.ensures in
+    let e =
+    long_is a.sheet.now _ _ _ (sym r.fault) (omega arith) (c.deref-sizes.ensures.0 ∙ r.accepted.0) r.accepted.1 c.count_legs.ensures.0 in
+    good_make a.sheet.now a.target.now _ _ _ (sym r.fault) e c.if-target-long.false c.write_instance.ensures refl

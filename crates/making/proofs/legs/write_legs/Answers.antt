@@ -1,7 +1,5 @@
 -- `write_legs` walks over the stations: each turn writes the legs between one and the next, and the rest is still to come.
-use Prim.Native.Nat.{ℕ, ◌+◌, ◌*◌}
-use native.Mathlib.Omega.{arith}
-use mathlib.Core.Path.{◌≡◌, refl, ◌∙◌}
+use Rattle.std.proofs.Common.{◌≡◌, ◌∙◌, ◌+◌, ◌*◌, ◌<◌, ◌≤◌, ℕ, refl, arith}
 use Rattle.sheet.proofs.Acceptance.{accepted_sheet}
 use Rattle.making.proofs.Writing.{left_starts, legs_start, first_fits, second_fits, turn_of, turn_legs, left_ends, left_legs}
 use Rattle.making.proofs.legs.write_legs.Goals as goal
@@ -12,24 +10,12 @@ loop-i-init c =
     let p = c.requires in
     (left_starts a.sheet.now a.n a.at p.sheet_value p.n_value.0, refl, legs_start a.sheet.now a.n a.at a.target.now p.sheet_value p.n_value.0)
 
-pub overflow_add-i : goal.overflow_add-i
-overflow_add-i c =
-    let few = (accepted_sheet c.args.sheet.now c.requires.sheet_value).sizes.most in
-    omega (arith, c.loop-i.invariant.0.going)
-
 pub values_at-these-requires : goal.values_at-these-requires
 values_at-these-requires c =
     let a = c.args in
     let l = c.loop-i in
-    let f = first_fits a.sheet.now a.n l.i l.from l.o _ l.invariant.0 c.loop-i-test.true in
-    omega arith
-
-pub overflow_add-behind : goal.overflow_add-behind
-overflow_add-behind c =
-    let a = c.args in
-    let l = c.loop-i in
-    let r = c.values_at-these.ensures in
-    let f = first_fits a.sheet.now a.n l.i l.from l.o _ l.invariant.0 c.loop-i-test.true in
+    let taken : l.i + 1 < a.n = omega (arith, c.loop-i-test.true, c.saturating_sub-i-end.ensures) in
+    let f = first_fits a.sheet.now a.n l.i l.from l.o _ l.invariant.0 taken in
     omega arith
 
 pub values_at-next-requires : goal.values_at-next-requires
@@ -37,7 +23,8 @@ values_at-next-requires c =
     let a = c.args in
     let l = c.loop-i in
     let r = c.values_at-these in
-    let g = second_fits a.sheet.now a.n l.i l.from l.o _ l.invariant.0 c.loop-i-test.true r.result.size (r.result.at + 2 * r.result.size) r.ensures.1 (omega arith) in
+    let taken : l.i + 1 < a.n = omega (arith, c.loop-i-test.true, c.saturating_sub-i-end.ensures) in
+    let g = second_fits a.sheet.now a.n l.i l.from l.o _ l.invariant.0 taken r.result.size (r.result.at + 2 * r.result.size) r.ensures.1 (omega arith) in
     omega arith
 
 pub overflow_cast-i : goal.overflow_cast-i
@@ -51,9 +38,10 @@ write_legs_between-o-requires c =
     let l = c.loop-i in
     let r = c.values_at-these in
     let q = c.values_at-next in
+    let taken : l.i + 1 < a.n = omega (arith, c.loop-i-test.true, c.saturating_sub-i-end.ensures) in
     let few = (accepted_sheet a.sheet.now c.requires.sheet_value).sizes.most in
     let t =
-    turn_of a.sheet.now a.n l.i l.from l.o _ l.invariant.0 c.loop-i-test.true r.result.size (r.result.at + 2 * r.result.size)
+    turn_of a.sheet.now a.n l.i l.from l.o _ l.invariant.0 taken r.result.size (r.result.at + 2 * r.result.size)
     r.ensures.1 (omega arith) q.result.size q.ensures.1 in
     (omega (arith, t.first_whole), t.first, omega (arith, t.second_whole), t.second, omega arith, omega (arith, t.room))
 
@@ -65,7 +53,7 @@ loop-i-preserved c =
     let q = c.values_at-next in
     let call = c.write_legs_between-o in
     let g : ℕ = r.result.at + 2 * r.result.size in
-    let taken = c.loop-i-test.true in
+    let taken : l.i + 1 < a.n = omega (arith, c.loop-i-test.true, c.saturating_sub-i-end.ensures) in
     let behind : g ≡ l.from + 1 + 2 * r.result.size = omega arith in
     let t = turn_of a.sheet.now a.n l.i l.from l.o _ l.invariant.0 taken r.result.size g r.ensures.1 behind q.result.size q.ensures.1 in (
       rw call.ensures.value t.next,
@@ -75,10 +63,16 @@ loop-i-preserved c =
           l.invariant.2 (rw (r.ensures.0, q.ensures.0) at call.ensures.target_after)),
     )
 
-pub shape_of-target : goal.shape_of-target
-shape_of-target c = c.loop-i.invariant.1
-
-pub returns : goal.returns
-returns c =
+pub returns-clause-value : goal.returns-clause-value
+returns-clause-value c =
     let a = c.args in
-    let l = c.loop-i in record { value = left_ends a.sheet.now a.n l.i l.from l.o _ l.invariant.0 c.loop-i-test.false; target_after = left_legs a.sheet.now a.n l.i l.from l.o _ l.invariant.0 c.loop-i-test.false _ l.target l.invariant.2 }
+    let l = c.loop-i in
+    let done : a.n ≤ l.i + 1 = omega (arith, c.loop-i-test.false, c.saturating_sub-i-end.ensures) in
+    left_ends a.sheet.now a.n l.i l.from l.o _ l.invariant.0 done
+
+pub returns-clause-target_after : goal.returns-clause-target_after
+returns-clause-target_after c =
+    let a = c.args in
+    let l = c.loop-i in
+    let done : a.n ≤ l.i + 1 = omega (arith, c.loop-i-test.false, c.saturating_sub-i-end.ensures) in
+    left_legs a.sheet.now a.n l.i l.from l.o _ l.invariant.0 done _ l.target l.invariant.2

@@ -12,6 +12,3 @@ abbrev pub invariant-loop-i : goal.invariant-loop-i
 invariant-loop-i l =
     Left l.sheet l.n l.i l.from l.o (l.at + 3 * leg_count (sheet_sizes l.sheet)) × (length l.target ≡ length l.initial.target)
     × (sets l.initial.target l.at (all_leg_words (legs_from 0 (positions_of l.sheet))) ≡ sets l.target l.o (all_leg_words (legs_ahead l.sheet l.i (l.n - l.i) l.from)))
-
-abbrev pub decreases-loop-i : goal.decreases-loop-i
-decreases-loop-i l = l.n - l.i

@@ -1,10 +1,6 @@
--- `read_stations` answers the sizes of n stations and the index behind them: i of them are read, and the answer is that of the words still to come.
-use Prim.Native.Nat.{◌-◌}
+-- So many stations are read, of these sizes, and the words behind them are left.
 use Rattle.sheet.proofs.Located.{StationsSoFar}
 use Rattle.sheet.proofs.stations.read_stations.Given as goal
 
-abbrev pub invariant-loop-i : goal.invariant-loop-i
-invariant-loop-i l = StationsSoFar l.words l.n l.sizes l.at l.i
-
-abbrev pub decreases-loop-i : goal.decreases-loop-i
-decreases-loop-i l = l.n - l.i
+abbrev pub invariant-loop : goal.invariant-loop
+invariant-loop l = StationsSoFar l.initial.reader l.reader l.n l.counter l.sizes.items

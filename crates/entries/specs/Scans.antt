@@ -1,0 +1,16 @@
+-- What a scan of entries' words answers in code: the state behind a word, or a fault.
+use Rattle.std.specs.Prelude.{ℕ, cond, Result, Ok, Err, eqb}
+use Rattle.fields.specs.declared.refusals.Fault.{Fault}
+use Rattle.fields.specs.declared.refusals.Fault.TheVariants.{BadEntry}
+use Rattle.fields.specs.Numbers.{fault_number}
+use Rattle.entries.specs.declared.Scan.{Scan}
+use Rattle.entries.specs.Entries.{Scanned, goes, stops}
+
+-- what a result says of the scan: it goes on with the state, or stops at the number of the fault
+abbrev pub scanned_of : Result Scan Fault → Scanned
+scanned_of (Ok s) = goes s.from s.count
+scanned_of (Err f) = stops (fault_number f)
+
+-- where the words end: the number of entries, or a fault inside an entry
+abbrev pub scan_end : Scan → Result ℕ Fault
+scan_end s = cond (eqb s.from 0) (Ok s.count) (Err BadEntry)

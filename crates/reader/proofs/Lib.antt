@@ -1,3 +1,0 @@
--- The laws of this crate that belong to no one function.
-pub mod Reading
-pub mod Turning

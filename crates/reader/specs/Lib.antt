@@ -1,2 +1,0 @@
--- What a reader answers.
-pub mod Next
