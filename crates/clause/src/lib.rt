@@ -16,7 +16,7 @@ pub struct Clause {
     pub d: u32,
 }
 
-// The sign at place k of a block.
+/// The sign at place k of a block.
 fn sign_in(block: u32, k: u32) -> u32
     requires { (block < 16777216) × (k < 3) }
     ensures { (result ≡ get_or (unpacked block) k 0) × (result < 256) }
@@ -28,7 +28,7 @@ fn sign_in(block: u32, k: u32) -> u32
     }
 }
 
-// The block with the sign at place k replaced.
+/// The block with the sign at place k replaced.
 fn block_with(block: u32, k: u32, sign: u32) -> u32
     requires { (block < 16777216) × (k < 3) × (sign < 256) }
     ensures { (unpacked result ≡ set (unpacked block) k sign) × (result < 16777216) }
@@ -40,7 +40,7 @@ fn block_with(block: u32, k: u32, sign: u32) -> u32
     }
 }
 
-// Some sign of the block is the full one beside it.
+/// Some sign of the block is the full one beside it.
 fn block_full(x: u32, full: u32) -> bool
     requires { (x < 16777216) × (full < 16777216) }
     ensures { result ≡ any_equal (unpacked x) (unpacked full) }
@@ -54,7 +54,7 @@ fn block_full(x: u32, full: u32) -> bool
     x / 65536 == full / 65536
 }
 
-// The place of the block's first sign that is not 0, 3 if there is none.
+/// The place of the block's first sign that is not 0, 3 if there is none.
 fn first_in(block: u32) -> u32
     requires { block < 16777216 }
     ensures { (result ≡ bucket (unpacked block)) × (result ≤ 3) }
@@ -71,7 +71,7 @@ fn first_in(block: u32) -> u32
     3
 }
 
-// One sign lies within the other, either way round.
+/// One sign lies within the other, either way round.
 pub fn nest(s: u32, t: u32) -> bool
     ensures { result ≡ nested s t }
 {
@@ -83,7 +83,7 @@ pub fn nest(s: u32, t: u32) -> bool
 }
 
 impl Clause {
-    // The clause with no literal.
+    /// The clause with no literal.
     pub fn empty() -> Self
         ensures { Holds result (replicate 12 0) }
     {
@@ -108,7 +108,7 @@ impl Clause {
         }
     }
 
-    // The clause with one variable's sign replaced.
+    /// The clause with one variable's sign replaced.
     pub fn replaced(mut self, v: u32, sign: u32) -> Self
         requires { FitsBlocks self × (v < 12) × (sign < 256) }
         ensures { Holds result (set (signs_of self) v sign) }
@@ -134,7 +134,7 @@ impl Clause {
         }
     }
 
-    // The clause with one variable's sign complemented within the full sign.
+    /// The clause with one variable's sign complemented within the full sign.
     pub fn complemented(mut self, v: u32, full: u32) -> Self
         requires { FitsBlocks self × (v < 12) × (get_or (signs_of self) v 0 ≤ full) × (full < 256) }
         ensures { Holds result (set (signs_of self) v (full - get_or (signs_of self) v 0)) }
@@ -143,7 +143,7 @@ impl Clause {
         self
     }
 
-    // The union with another clause: the signs joined at every variable.
+    /// The union with another clause: the signs joined at every variable.
     pub fn union(mut self, other: Clause) -> Self
         requires { FitsBlocks self × FitsBlocks other }
         ensures { Holds result (joined (signs_of self) (signs_of other)) }
@@ -155,7 +155,7 @@ impl Clause {
         self
     }
 
-    // The union but at one variable, where the signs meet.
+    /// The union but at one variable, where the signs meet.
     pub fn met_at(self, other: Clause, v: u32) -> Self
         requires { FitsBlocks self × FitsBlocks other × (v < 12) }
         ensures { Holds result (set (joined (signs_of self) (signs_of other)) v (bit_and (get_or (signs_of self) v 0) (get_or (signs_of other) v 0))) }
@@ -163,7 +163,7 @@ impl Clause {
         self.union(other).replaced(v, self.sign(v) & other.sign(v))
     }
 
-    // Some sign is full.
+    /// Some sign is full.
     pub fn is_tautology(self, fulls: Clause) -> bool
         requires { FitsBlocks self × FitsBlocks fulls }
         ensures { (ds : List ℕ) → FullSigns fulls ds → result ≡ tautology ds (signs_of self) }
@@ -180,7 +180,7 @@ impl Clause {
         block_full(self.d, fulls.d)
     }
 
-    // The lowest variable present, 12 if there is none.
+    /// The lowest variable present, 12 if there is none.
     pub fn lowest(self) -> u32
         requires { FitsBlocks self }
         ensures { (result ≡ bucket (signs_of self)) × (result ≤ 12) }
@@ -213,7 +213,7 @@ impl Clause {
         self.d == other.d
     }
 
-    // At some variable other than v the union of two valid clauses is full. Both are present there, since neither sign alone is full.
+    /// At some variable other than v the union of two valid clauses is full. Both are present there, since neither sign alone is full.
     pub fn clashes(self, other: Clause, v: u32, fulls: Clause) -> bool
         requires { FitsBlocks self × FitsBlocks other × FitsBlocks fulls × (v < 12) }
         ensures { (ds : List ℕ) → FullSigns fulls ds → ValidClause ds (signs_of self) → ValidClause ds (signs_of other) → result ≡ clashing ds (others v (signs_of self)) (others v (signs_of other)) }
@@ -221,7 +221,7 @@ impl Clause {
         self.union(other).replaced(v, 0).is_tautology(fulls)
     }
 
-    // Two valid clauses may be resolved on v.
+    /// Two valid clauses may be resolved on v.
     pub fn may_resolve(self, other: Clause, v: u32, fulls: Clause) -> bool
         requires { FitsBlocks self × FitsBlocks other × FitsBlocks fulls × (v < 12) }
         ensures { (ds : List ℕ) → FullSigns fulls ds → ValidClause ds (signs_of self) → ValidClause ds (signs_of other) → result ≡ permitted ds v (signs_of self) (signs_of other) }

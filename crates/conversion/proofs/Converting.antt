@@ -8,27 +8,26 @@ use mathlib.Core.Bool.{true, false}
 use mathlib.Core.List.{List, [], ◌∷◌, ◌++◌, map}
 use lib.ListN.{length, take, drop, set, replicate}
 use borrow.Author.Tests.{lt-ltb, le-ltb}
+use Rattle.std.specs.Prelude.{Option, None}
 use Rattle.wcsp.specs.Row.{Row, heavy}
 use Rattle.words.specs.Layout.{count_word}
-use Rattle.fields.specs.declared.Answer.{Answer}
+use Rattle.fields.specs.Answers.{Answer}
 use Rattle.fields.specs.Answers.{refused, good}
 use Rattle.fields.specs.Limits.{max_variables}
 use Rattle.fields.specs.Padding.{lacking}
 use Rattle.rows.specs.Form.{LaidIn, LeftIn}
 use Rattle.table.specs.declared.Shape.{Shape}
-use Rattle.table.specs.declared.Checked.{Checked}
-use Rattle.table.specs.declared.Checked.TheVariants.{Invalid}
 use Rattle.table.specs.Form.{TableForm}
 use Rattle.table.specs.Layout.{rows_at, capacity_in, table_words_in}
 use Rattle.table.specs.Meaning.{variables_of, table_sizes, row_count, rows_from_in, table_rows_in, own_rows_in}
 use Rattle.table.specs.Valid.{valid_table_in}
 use Rattle.table.specs.Check.{shape_of, check_table_in}
-use Rattle.table.proofs.TableLaws.{TableLaws}
+use Rattle.table.specs.TableLaws.{TableLaws}
 use Rattle.table.proofs.FormTables.{PassedIn, passed, length_sizes, length_rows, passed_room, room_rows, length_words, twelve_is_canonical}
 use Rattle.table.proofs.FormFinishing.{laid_words, finished}
 use Rattle.table.proofs.Tested.{table_invalid_in}
 use Rattle.table.proofs.Own.{own_widens_in, own_wide_in, own_count_in, words_wide_in}
-use Rattle.rewriting.proofs.Starting.{none-started}
+use Rattle.conversion.proofs.Starting.{none-started}
 use Rattle.conversion.specs.Calls.{ConvertReturned, convert_call}
 use Rattle.conversion.proofs.Theorems.{of_good, light_above}
 
@@ -43,7 +42,7 @@ refusing {target} number r e c = ap (λ a. record { answer = a; target = target 
 
 -- ---- 9
 
-pub not_a_table : (f g : TableForm) (source target : List ℕ) (checked : Checked) → checked ≡ check_table_in f source → checked ≡ Invalid
+pub not_a_table : (f g : TableForm) (source target : List ℕ) (checked : Option Shape) → checked ≡ check_table_in f source → checked ≡ None
     → (r : Answer) → r ≡ refused 9 → Converted f g source target r target
 unfolding convert_call
 not_a_table f g source target checked told i r e = refusing 9 r e (rw (table_invalid_in f source checked told i))

@@ -25,8 +25,8 @@ use Rattle.table.specs.Valid.{is_signs, sign_kinds, valid_signs, valid_row_in, r
 use Rattle.table.proofs.FormTables.{passed}
 use Rattle.table.proofs.RawRows.{table_laws}
 use Rattle.table.proofs.Own.{own_count_in}
-use Rattle.fiveform.specs.Five.{five_form}
-use Rattle.fiveform.proofs.FiveLaws.{five_laws}
+use Rattle.table.specs.Five.{five_form}
+use Rattle.table.specs.FiveLaws.{five_laws}
 use Rattle.conversion.specs.Theorems.{OneFormWithRows, BothWithoutRows}
 
 -- ---- with rows

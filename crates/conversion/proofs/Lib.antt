@@ -4,3 +4,6 @@ pub mod Order
 pub mod Forms
 pub mod Converting
 pub mod Witness
+pub mod Starting
+pub mod Weights
+pub mod RowsRewritten

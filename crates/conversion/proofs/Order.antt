@@ -12,7 +12,7 @@ use Rattle.table.specs.Raws.{standard_form}
 use Rattle.table.specs.Layout.{rows_at, capacity_in, capacity}
 use Rattle.table.specs.Meaning.{variables_of, own_rows_in}
 use Rattle.table.specs.Valid.{valid_table_in}
-use Rattle.fiveform.specs.Five.{five_form}
+use Rattle.table.specs.Five.{five_form}
 use Rattle.conversion.specs.Calls.{convert_call}
 use Rattle.conversion.specs.Order.{SixInOrder, FiveInOrder}
 use Rattle.conversion.proofs.Theorems.{converts_by, by_tests, five_light}

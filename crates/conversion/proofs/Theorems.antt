@@ -17,12 +17,12 @@ use Rattle.table.specs.Layout.{rows_at, capacity_in, table_words_in}
 use Rattle.table.specs.Meaning.{variables_of, table_sizes, own_rows_in}
 use Rattle.table.specs.Valid.{valid_table_in}
 use Rattle.table.specs.Theorems.{HoldableIn}
-use Rattle.table.proofs.TableLaws.{TableLaws}
+use Rattle.table.specs.TableLaws.{TableLaws}
 use Rattle.table.proofs.FormTables.{passed, length_sizes}
 use Rattle.table.proofs.RawRows.{table_laws}
 use Rattle.table.proofs.Own.{valid_is_canonical_in, written_reads_back_in, own_count_in}
-use Rattle.fiveform.specs.Five.{five_max_weight, five_form}
-use Rattle.fiveform.proofs.FiveLaws.{five_laws}
+use Rattle.table.specs.Five.{five_max_weight, five_form}
+use Rattle.table.specs.FiveLaws.{five_laws}
 use Rattle.conversion.specs.Calls.{ConvertReturned, convert_call}
 use Rattle.conversion.specs.Theorems.{KeepsIn, BackIn, Conversions}
 

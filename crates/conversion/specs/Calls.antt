@@ -1,14 +1,14 @@
 -- The two conversions: the answer and the target, for good and refused calls alike. The source is only read.
 use Rattle.std.specs.Prelude.{ℕ, cond, List, length, ltb}
 use Rattle.wcsp.specs.Row.{heavy}
-use Rattle.fields.specs.declared.Answer.{Answer}
+use Rattle.fields.specs.Answers.{Answer}
 use Rattle.fields.specs.Answers.{refused, good}
 use Rattle.table.specs.Form.{TableForm}
 use Rattle.table.specs.Raws.{standard_form}
 use Rattle.table.specs.Layout.{rows_at, capacity_in, table_words_in}
 use Rattle.table.specs.Meaning.{variables_of, table_sizes, own_rows_in}
 use Rattle.table.specs.Valid.{valid_table_in}
-use Rattle.fiveform.specs.Five.{five_form}
+use Rattle.table.specs.Five.{five_form}
 
 -- an answer and the target as the call returns
 pub record ConvertReturned : Type 0 where

@@ -5,7 +5,7 @@ use Rattle.fields.specs.Order.{Test, ◌if◌, first_of, FirstInOrder}
 use Rattle.table.specs.Layout.{rows_at, capacity_in, capacity}
 use Rattle.table.specs.Meaning.{variables_of, own_rows_in, own_rows}
 use Rattle.table.specs.Valid.{valid_table_in, valid_table}
-use Rattle.fiveform.specs.Five.{five_max_weight, five_form}
+use Rattle.table.specs.Five.{five_max_weight, five_form}
 use Rattle.conversion.specs.Calls.{to_six_call, to_five_call}
 
 -- 9 for no valid table of five-word rows; 10 for a target shorter than head, sizes and row count; 12 for more rows than the target takes. Every

@@ -6,7 +6,7 @@ use Rattle.table.specs.Form.{TableForm}
 use Rattle.table.specs.Raws.{standard_form}
 use Rattle.table.specs.Meaning.{table_sizes, row_count, own_rows_in}
 use Rattle.table.specs.Valid.{valid_table_in, valid_table}
-use Rattle.fiveform.specs.Five.{five_form}
+use Rattle.table.specs.Five.{five_form}
 use Rattle.conversion.specs.Calls.{convert_call}
 
 -- ---- what a good conversion keeps

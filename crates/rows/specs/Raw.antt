@@ -1,10 +1,8 @@
 -- Raw rows of six words, the form that all calls but one take: four sign words and the weight's two words, of any content. The width, the
 -- greatest weight, and how a weight lies in a row's words and is told from other words stand here alone.
-use Rattle.std.specs.Prelude.{ℕ, zero, suc, ◌+◌, ◌*◌, ◌/◌, ◌%◌, Bool, not, ◌&&◌, cond, List, [], ◌∷◌, get_or, set, drop, eqb}
+use Rattle.std.specs.Prelude.{ℕ, zero, suc, ◌+◌, ◌*◌, ◌/◌, ◌%◌, Bool, not, ◌&&◌, cond, List, [], ◌∷◌, get_or, set, drop, eqb, Option, Some, None}
 use Rattle.words.specs.Layout.{kind_of, payload_of, signs_word, weight_word, high_word}
 use Rattle.clause.specs.declared.Clause.{Clause}
-use Rattle.rows.specs.declared.Found.{Found}
-use Rattle.rows.specs.declared.Found.TheVariants.{At, Missing}
 use Rattle.rows.specs.Form.{Form, raws_from_in, LaidIn, LeftIn}
 
 -- words to a row, and the greatest weight
@@ -102,9 +100,14 @@ unfoldable pub same_signs : Raw → Raw → Bool
 same_signs r q = eqb r.a q.a && eqb r.b q.b && eqb r.c q.c && eqb r.d q.d
 
 -- the first raw row, counted from k, with the sign words of q
-unfoldable pub find_from : Raw → ℕ → List Raw → Found
-find_from q k [] = Missing
-find_from q k (r ∷ rs) = cond (same_signs r q) (At k) (find_from q (suc k) rs)
+unfoldable pub find_from : Raw → ℕ → List Raw → Option ℕ
+find_from q k [] = None
+find_from q k (r ∷ rs) = cond (same_signs r q) (Some k) (find_from q (suc k) rs)
+
+-- the same of so many rows that start width words behind one another, whatever stands behind their sign words
+unfoldable pub find_spaced : ℕ → Raw → ℕ → ℕ → List ℕ → Option ℕ
+find_spaced width q k zero ws = None
+find_spaced width q k (suc n) ws = cond (same_signs (raw_at ws 0) q) (Some k) (find_spaced width q (suc k) n (drop width ws))
 
 -- raw row k with another weight
 unfoldable pub reweighed : List Raw → ℕ → ℕ → List Raw

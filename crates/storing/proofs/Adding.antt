@@ -5,10 +5,9 @@ use mathlib.Core.Path.{◌≡◌, sym, ap, ◌∙◌}
 use mathlib.Core.List.{List, [], ◌∷◌, ◌++◌}
 use lib.ListN.{length, get_or, drop, length-append}
 use borrow.Author.Tests.{eq-eqb, ne_eqb}
+use Rattle.std.specs.Prelude.{Option, Some, None}
 use Rattle.clause.specs.declared.Clause.{Clause}
 use Rattle.clause.specs.Packed.{FitsBlocks}
-use Rattle.rows.specs.declared.Found.{Found}
-use Rattle.rows.specs.declared.Found.TheVariants.{At, Missing}
 use Rattle.rows.specs.Raw.{row_width, max_weight, no_raw, raw_at, raws_in, Laid, Left, weight_in, raw_row, find_from, reweighed}
 use Rattle.rows.proofs.Flat.{length-raws_from, raw_at_lem}
 use Rattle.rows.proofs.Searching.{find_at}
@@ -24,28 +23,28 @@ module _ (t : List ℕ) (base count : ℕ) (x : Clause) (w : ℕ) (a : Addable t
   unfolding added
   add_none z = rw (eq-eqb w 0 z) (left_refl a.laid, sym (length-raws_from count (drop base t)))
 
-  module _ (some : w ≡ 0 → ⊥) (f : Found) (e : f ≡ find_from (raw_row x 0) 0 (raws_in t base count)) where
+  module _ (some : w ≡ 0 → ⊥) (f : Option ℕ) (e : f ≡ find_from (raw_row x 0) 0 (raws_in t base count)) where
     added_by : added (raws_in t base count) x w ≡ added_at f (raws_in t base count) x w
     unfolding added
     added_by = rw (ne_eqb w 0 some, ← e)
 
-    added_last : f ≡ Missing → added (raws_in t base count) x w ≡ raws_in t base count ++ (raw_row x w ∷ [])
+    added_last : f ≡ None → added (raws_in t base count) x w ≡ raws_in t base count ++ (raw_row x w ∷ [])
     unfolding added_at
     added_last m = rw m at added_by
 
-    length_last : f ≡ Missing → length (added (raws_in t base count) x w) ≡ count + 1
+    length_last : f ≡ None → length (added (raws_in t base count) x w) ≡ count + 1
     length_last m =
         ap length (added_last m) ∙ length-append (raws_in t base count) (raw_row x w ∷ [])
         ∙ ap (λ n. n + 1) (length-raws_from count (drop base t))
 
-    pub append_ready : f ≡ Missing → Laid t base (raws_in t base count) × (base + row_width * count + row_width ≤ length t) × FitsBlocks x × (w ≤ max_weight)
+    pub append_ready : f ≡ None → Laid t base (raws_in t base count) × (base + row_width * count + row_width ≤ length t) × FitsBlocks x × (w ≤ max_weight)
     append_ready m = (a.laid, omega (arith, length_last m, a.room), a.packed, a.small)
 
-    pub appended : f ≡ Missing → (t' : List ℕ) → Left t base t' (raws_in t base count ++ (raw_row x w ∷ []))
+    pub appended : f ≡ None → (t' : List ℕ) → Left t base t' (raws_in t base count ++ (raw_row x w ∷ []))
         → Left t base t' (added (raws_in t base count) x w) × (count + 1 ≡ length (added (raws_in t base count) x w))
     appended m t' l = (rw (added_last m) l, sym (length_last m))
 
-    module _ (k : ℕ) (m : f ≡ At k) where
+    module _ (k : ℕ) (m : f ≡ Some k) where
       pub found_within : k < count
       found_within =
           let n = length-raws_from count (drop base t) in

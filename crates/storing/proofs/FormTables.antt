@@ -7,6 +7,7 @@ use mathlib.Core.Path.{◌≡◌, refl, sym, ap, ◌∙◌}
 use mathlib.Core.List.{List, [], ◌∷◌, ◌++◌, append_assoc, append-nil}
 use lib.ListN.{length, get_or, take, drop, set, replicate, length-append, length-take, length-drop, length-set, length-replicate, replicate-append-replicate, drop_of_length-le}
 use lib.Seq.{drop_at, take_at, take-append-le, drop-append-le, take-add, drop-drop, length-take-le, set_split, drop-cons, take_all}
+use borrow.Rule.Slice.PartMut.{put_mid}
 use Rattle.rows.specs.Form.{Form, flat_in, raws_from_in, LaidIn, LeftIn}
 use Rattle.rows.proofs.FormRows.{FormLaws, length_flat, length-raws_from, raws_from_flat, flat_append, flat_cons, take_flat, drop_flat}
 
@@ -148,6 +149,13 @@ module _ (f : Form) (law : FormLaws f) where
       row_appended t _ base (raws_from_in f count (drop base t)) q l (omega arith)
       (rw (e, take_all (length t - at) (drop at t) rest, drop_of_length-le (drop at t) rest, drop-drop f.width at t, append-nil)
       (ap (λ m. take m t ++ (f.words q ++ drop (m + f.width) t)) place))
+
+  -- where the width is read from elsewhere
+  pub row_lent_wide : (w : ℕ) → w ≡ f.width → (t : List ℕ) (base count : ℕ) (q : f.Raw) (part : List ℕ) → LaidIn f t base (raws_from_in f count (drop base t))
+      → base + f.width * count + f.width ≤ length t
+      → part ≡ f.words q ++ drop f.width (take (length t - (base + w * count)) (drop (base + w * count) t))
+      → LeftIn f t base (put_mid (base + w * count) (length t - (base + w * count)) t part) (raws_from_in f count (drop base t) ++ (q ∷ []))
+  row_lent_wide w e t base count q part l room p = rw e (row_lent t base count q part l room (rw e at p))
 
   -- ---- the last row cleared
 

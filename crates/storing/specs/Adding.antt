@@ -1,15 +1,13 @@
 -- Inner: one clause added to the raw rows of a table (document 01, Steps): its weight goes to the row with its signs, else to a new last row.
-use Rattle.std.specs.Prelude.{ℕ, ◌+◌, ◌*◌, ◌<◌, ◌≤◌, cond, List, [], ◌∷◌, ◌++◌, length, get_or, eqb}
+use Rattle.std.specs.Prelude.{ℕ, ◌+◌, ◌*◌, ◌<◌, ◌≤◌, cond, List, [], ◌∷◌, ◌++◌, length, get_or, eqb, Option, Some, None}
 use Rattle.clause.specs.declared.Clause.{Clause}
 use Rattle.clause.specs.Packed.{FitsBlocks}
-use Rattle.rows.specs.declared.Found.{Found}
-use Rattle.rows.specs.declared.Found.TheVariants.{At, Missing}
 use Rattle.rows.specs.Raw.{row_width, max_weight, Raw, no_raw, raws_in, Laid, weight_in, raw_row, find_from, reweighed}
 
 -- the raw rows with a clause of this weight: added to the row that was found, else a new last row
-unfoldable pub added_at : Found → List Raw → Clause → ℕ → List Raw
-added_at (At k) rs x weight = reweighed rs k (weight_in (get_or rs k no_raw) + weight)
-added_at Missing rs x weight = rs ++ (raw_row x weight ∷ [])
+unfoldable pub added_at : Option ℕ → List Raw → Clause → ℕ → List Raw
+added_at (Some k) rs x weight = reweighed rs k (weight_in (get_or rs k no_raw) + weight)
+added_at None rs x weight = rs ++ (raw_row x weight ∷ [])
 
 -- weight 0 adds nothing
 unfoldable pub added : List Raw → Clause → ℕ → List Raw

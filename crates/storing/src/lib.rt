@@ -2,25 +2,16 @@
 #![tactic(auto)]
 
 ghost use Rattle.std.specs.Prelude.{◌≡◌, [], ◌∷◌, ◌++◌, ◌+◌, ◌*◌, ◌<◌, ◌≤◌, length, take, drop, replicate};
-ghost use Rattle.clause.specs.Packed.{FitsBlocks};
-ghost use Rattle.rows.specs.Raw.{row_width, max_weight, raw_words, raw_at, raws_in, Laid, Left, weighing, raw_row, sign_words_in, reweighed, without};
+ghost use Rattle.clause.specs.Packed.{signs_of, FitsBlocks};
+ghost use Rattle.rows.specs.Form.{raws_from_in, LaidIn, LeftIn};
+ghost use Rattle.rows.specs.Raw.{row_width, max_weight, raw_words, raw_at, raws_in, Laid, Left, weighing, raw_row, reweighed, without};
 ghost use Rattle.storing.specs.Adding.{added, Addable};
 
 use clause::Clause;
-use rows::{Found, HIGH_UNIT, WIDTH};
+use rows::{HIGH_UNIT, WIDTH};
+use table::forms::{RowForm, Six};
 
-// A clause's sign words at the front of the part it is lent.
-pub fn write_signs(part: &mut [u32], x: Clause)
-    requires { (4 ≤ length part.old) × FitsBlocks x }
-    ensures { part.new ≡ sign_words_in (raw_row x 0) ++ drop 4 part.old }
-{
-    part[0] = words::signs(0, x.a);
-    part[1] = words::signs(1, x.b);
-    part[2] = words::signs(2, x.c);
-    part[3] = words::signs(3, x.d);
-}
-
-// The weight of the row whose words start at this place, behind its sign words.
+/// The weight of the row whose words start at this place, behind its sign words.
 fn write_weight(t: &mut [u32], at: usize, weight: u64)
     requires { (at + row_width ≤ length t.old) × (weight ≤ max_weight) }
     ensures { t.new ≡ take at t.old ++ (raw_words (weighing (raw_at t.old at) weight) ++ drop (at + row_width) t.old) }
@@ -29,25 +20,24 @@ fn write_weight(t: &mut [u32], at: usize, weight: u64)
     t[at + 5] = words::high((weight / HIGH_UNIT) as u32);
 }
 
-// The row writer: a row's words at the front of the part it is lent.
-fn write_row(part: &mut [u32], x: Clause, weight: u64)
-    requires { (row_width ≤ length part.old) × FitsBlocks x × (weight ≤ max_weight) }
-    ensures { part.new ≡ raw_words (raw_row x weight) ++ drop row_width part.old }
+/// A new row of any form after the last one: the part of the table that starts at its place is lent on to the form's row writer.
+pub fn append_in<F: RowForm>(t: &mut [u32], base: usize, count: usize, x: Clause, weight: u64)
+    requires { LaidIn F.form.rows t.old base (raws_from_in F.form.rows count (drop base t.old)) × (base + F.form.rows.width * count + F.form.rows.width ≤ length t.old) × FitsBlocks x × (weight ≤ F.form.limit) }
+    ensures { LeftIn F.form.rows t.old base t.new (raws_from_in F.form.rows count (drop base t.old) ++ (F.form.raw_of (record { signs = signs_of x; weight = weight }) ∷ [])) }
 {
-    write_signs(part, x);
-    write_weight(part, 0, weight);
+    let at = base + F::WIDTH * count;
+    F::write(&mut t[at..], x, weight);
 }
 
-// A new row after the last one: the part of the table that starts at its place is lent on to the row writer.
+/// A new row of six words after the last one.
 pub fn append(t: &mut [u32], base: usize, count: usize, x: Clause, weight: u64)
     requires { Laid t.old base (raws_in t.old base count) × (base + row_width * count + row_width ≤ length t.old) × FitsBlocks x × (weight ≤ max_weight) }
     ensures { Left t.old base t.new (raws_in t.old base count ++ (raw_row x weight ∷ [])) }
 {
-    let at = base + WIDTH * count;
-    write_row(&mut t[at..], x, weight);
+    append_in::<Six>(t, base, count, x, weight);
 }
 
-// Another weight for row k.
+/// Another weight for row k.
 pub fn reweigh(t: &mut [u32], base: usize, count: usize, k: usize, weight: u64)
     requires { Laid t.old base (raws_in t.old base count) × (base + row_width * count ≤ length t.old) × (k < count) × (weight ≤ max_weight) }
     ensures { Left t.old base t.new (reweighed (raws_in t.old base count) k weight) }
@@ -56,7 +46,7 @@ pub fn reweigh(t: &mut [u32], base: usize, count: usize, k: usize, weight: u64)
     write_weight(t, at, weight);
 }
 
-// A clause added to the rows: its weight goes to the row with its signs, else to a new last row; weight 0 adds nothing. Answers the number of rows.
+/// A clause added to the rows: its weight goes to the row with its signs, else to a new last row; weight 0 adds nothing. Answers the number of rows.
 pub fn add(t: &mut [u32], base: usize, count: usize, x: Clause, weight: u64) -> usize
     requires { Addable t.old base count x weight }
     ensures { let rows = added (raws_in t.old base count) x weight in Left t.old base t.new rows × (result ≡ length rows) }
@@ -65,7 +55,7 @@ pub fn add(t: &mut [u32], base: usize, count: usize, x: Clause, weight: u64) -> 
         return count;
     }
     let found = rows::find(t, base, count, x);
-    let Found::At(k) = found else {
+    let Some(k) = found else {
         append(t, base, count, x, weight);
         return count + 1;
     };
@@ -74,7 +64,7 @@ pub fn add(t: &mut [u32], base: usize, count: usize, x: Clause, weight: u64) -> 
     count
 }
 
-// The row behind the one at this place moved down onto it.
+/// The row behind the one at this place moved down onto it.
 fn move_down(t: &mut [u32], at: usize)
     requires { at + row_width + row_width ≤ length t.old }
     ensures { t.new ≡ take at t.old ++ (take row_width (drop (at + row_width) t.old) ++ drop (at + row_width) t.old) }
@@ -86,7 +76,7 @@ fn move_down(t: &mut [u32], at: usize)
     }
 }
 
-// The words of the row at this place cleared.
+/// The words of the row at this place cleared.
 fn clear(t: &mut [u32], at: usize)
     requires { at + row_width ≤ length t.old }
     ensures { t.new ≡ take at t.old ++ (replicate row_width 0 ++ drop (at + row_width) t.old) }
@@ -98,7 +88,7 @@ fn clear(t: &mut [u32], at: usize)
     }
 }
 
-// Row k taken out: the rows behind it close up, and the words of the last place are cleared.
+/// Row k taken out: the rows behind it close up, and the words of the last place are cleared.
 pub fn remove(t: &mut [u32], base: usize, count: usize, k: usize)
     requires { Laid t.old base (raws_in t.old base count) × (base + row_width * count ≤ length t.old) × (k < count) }
     ensures { Left t.old base t.new (without (raws_in t.old base count) k) }

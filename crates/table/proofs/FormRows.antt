@@ -18,9 +18,9 @@ use Rattle.rows.proofs.FormRows.{length-raws_from, raw_at}
 use Rattle.table.specs.Form.{TableForm}
 use Rattle.table.specs.Meaning.{rows_from_in}
 use Rattle.table.specs.Valid.{sign_kinds, valid_signs, valid_row_in, rows_valid_in, has_signs, distinct_rows}
-use Rattle.table.proofs.Carried.{CarriedIn, AllCarriedIn, nil_carried, cons_carried}
+use Rattle.table.specs.Carried.{CarriedIn, AllCarriedIn, nil_carried, cons_carried}
 use Rattle.table.proofs.ValidParts.{clause_valid, valid_clause, absent_rows}
-use Rattle.table.proofs.TableLaws.{TableLaws}
+use Rattle.table.specs.TableLaws.{TableLaws}
 
 pub length-rows_from : (f : TableForm) (k : ℕ) (ws : List ℕ) → length (rows_from_in f k ws) ≡ k
 unfolding rows_from_in

@@ -27,10 +27,10 @@ use Rattle.table.specs.Layout.{max_rows, rows_at, capacity_in, table_words_in}
 use Rattle.table.specs.Meaning.{variables_of, table_sizes, domains, row_count, rows_from_in, table_rows_in}
 use Rattle.table.specs.Valid.{is_count, valid_front, within_capacity, rows_in_range, no_two_equal, zero_past, rows_valid_in, distinct_rows, all_zero, valid_table_in}
 use Rattle.table.specs.Twelve.{TwelveHoldableIn, TwelveIsCanonicalIn, TwelveWrittenIn}
-use Rattle.table.proofs.Carried.{AllCarriedIn, carried_valid, carried_light}
-use Rattle.table.proofs.WordTests.{count_made, count_passes}
+use Rattle.table.specs.Carried.{AllCarriedIn, carried_valid, carried_light}
+use Rattle.table.specs.WordKinds.{count_made, count_passes}
 use Rattle.table.proofs.ValidParts.{sizes_made, sizes_pass, payloads_sizes, distinct_pass, zeros_made, zeros_pass}
-use Rattle.table.proofs.TableLaws.{TableLaws}
+use Rattle.table.specs.TableLaws.{TableLaws}
 use Rattle.table.proofs.FormRows.{length-rows_from, rows_raws, carried_rows_from, rows_made, rows_valid_lem, rows_pass}
 
 -- no table takes more rows than this, however long it is

@@ -14,12 +14,13 @@ use Rattle.wcsp.specs.Row.{Row, Absent, nil_absent, cons_absent}
 use Rattle.wcsp.specs.Resolve.{no_row}
 use Rattle.wcsp.proofs.Lists.{both_true, ne_true, and_left, and_right, same_sym}
 use Rattle.clause.specs.declared.Clause.{Clause}
-use Rattle.clause.specs.Packed.{FullSigns}
+use Rattle.clause.specs.Packed.{signs_of, FullSigns}
+use Rattle.rows.specs.Raw.{raw_at, clause_in}
 use Rattle.table.specs.Form.{TableForm}
 use Rattle.table.specs.Meaning.{rows_from_in}
 use Rattle.table.specs.Valid.{valid_row_in, rows_valid_in, has_signs, distinct_rows}
 use Rattle.table.proofs.ValidParts.{absent_rows, rows_absent}
-use Rattle.table.proofs.TableLaws.{TableLaws}
+use Rattle.table.specs.TableLaws.{TableLaws}
 use Rattle.table.proofs.FormRows.{length-rows_from, row_at}
 
 -- ---- distinct rows by their places
@@ -161,3 +162,10 @@ module _ (f : TableForm) (law : TableLaws f) where
   pub all_pass : (t : List ℕ) (base k count : ℕ) (fulls : Clause) → k ≡ count → TestedFor f fulls t base k
       → (ds : List ℕ) → FullSigns fulls ds → true ≡ all_valid f ds count (drop base t)
   all_pass t base k count fulls e tested ds g = all_tested ds t base count (rw e at (tested ds g))
+
+-- ---- the signs of the row in front of what starts at a place
+
+pub signs_front : (f : TableForm) → TableLaws f → (t : List ℕ) (at : ℕ) → (f.row_of (f.rows.read (drop at t) 0)).signs ≡ signs_of (clause_in (raw_at t at))
+signs_front f law t at =
+    let here : at + 0 ≡ at = omega arith in
+    ap (λ r. (f.row_of r).signs) (law.form.read_drop t at 0 ∙ ap (λ i. f.rows.read t i) here) ∙ law.signs t at

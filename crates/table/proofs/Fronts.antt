@@ -9,6 +9,7 @@ use lib.ListN.{length, get_or, take, drop, set, replicate, length-append, length
 use lib.Seq.{drop-cons, get_or-drop, take-suc, set_at, length-take-le}
 use lib.Dec.{eqb}
 use borrow.Author.Tests.{eq-eqb, ne_eqb}
+use Rattle.std.specs.Prelude.{Some, None}
 use Rattle.wcsp.specs.Sign.{full}
 use Rattle.words.specs.Layout.{payload_of}
 use Rattle.clause.specs.declared.Clause.{Clause}
@@ -16,11 +17,10 @@ use Rattle.clause.specs.Packed.{signs_of, FitsBlocks, Holds}
 use Rattle.fields.specs.Front.{size_in, good_sizes}
 use Rattle.fields.specs.Padding.{padded}
 use Rattle.fields.proofs.Fronts.{size_some}
-use Rattle.table.specs.declared.Fulls.TheVariants.{Signs, Bad}
 use Rattle.table.specs.Clauses.{clause_from}
 use Rattle.table.specs.Valid.{all_zero}
 use Rattle.table.specs.Check.{full_clause, fulls_from}
-use Rattle.table.proofs.Twelve.{clause_from_signs}
+use Rattle.table.specs.TwelveSigns.{clause_from_signs}
 
 -- ---- zeros
 
@@ -77,7 +77,7 @@ module _ (ws : List ℕ) (n i d : ℕ) (f : Clause) (p : Filled ws n i f) (e : d
       let q : n - i ≡ suc (n - (i + 1)) = omega arith in
       p.tested ∙ rw (q, drop-cons ws i 0 (omega arith), ← e, add-one i)
 
-  pub size_bad : d ≡ 0 → Bad ≡ fulls_from n ws
+  pub size_bad : d ≡ 0 → None ≡ fulls_from n ws
   unfolding fulls_from
   size_bad z = let g : good_sizes n ws ≡ false = size_here ∙ rw (eq-eqb d 0 z) in rw g
 
@@ -102,11 +102,11 @@ module _ (ws : List ℕ) (n i d : ℕ) (f : Clause) (p : Filled ws n i f) (e : d
         tested = size_here ∙ rw (ne_eqb d 0 z);
       }
 
-pub all_filled : (ws : List ℕ) (n i : ℕ) (f : Clause) → Filled ws n i f → i ≡ n → Signs f ≡ fulls_from n ws
+pub all_filled : (ws : List ℕ) (n i : ℕ) (f : Clause) → Filled ws n i f → i ≡ n → Some f ≡ fulls_from n ws
 unfolding fulls_from good_sizes
 all_filled ws n i f p e =
     let z : n - i ≡ 0 = omega arith in
     let v : good_sizes n ws ≡ true = p.tested ∙ rw z in
     let s : signs_of f ≡ map full (padded (map payload_of (take n ws))) = rw e at p.signs in
     let c : f ≡ full_clause (padded (map payload_of (take n ws))) = sym (clause_from_signs f) ∙ ap clause_from s in
-    rw v (ap Signs c)
+    rw v (ap Some c)

@@ -1,19 +1,17 @@
 -- The laws of this crate that belong to no one function.
 pub mod Twelve
 pub mod Carried
-pub mod WordTests
 pub mod ValidParts
-pub mod TableLaws
 pub mod FormRows
 pub mod FormTables
 pub mod FormFinishing
 pub mod FormTests
 pub mod Clearing
-pub mod SignWords
 pub mod RawRows
 pub mod Canonical
 pub mod Finishing
 pub mod Finding
+pub mod FormWords
 pub mod RowTests
 pub mod RowsTests
 pub mod Fronts

@@ -22,7 +22,7 @@ use Rattle.table.specs.Meaning.{variables_of, row_count, table_sizes, domains, t
 use Rattle.table.specs.Valid.{valid_table_in, valid_table}
 use Rattle.table.specs.Theorems.{HoldableIn, ValidIsCanonicalIn, WrittenReadsBackIn, Holdable, ValidIsCanonical, WrittenReadsBack, NoSignBehind}
 use Rattle.table.specs.Twelve.{TwelveHoldableIn}
-use Rattle.table.proofs.TableLaws.{TableLaws}
+use Rattle.table.specs.TableLaws.{TableLaws}
 use Rattle.table.proofs.FormTables as forms
 use Rattle.table.proofs.RawRows.{table_laws}
 use Rattle.table.proofs.Finishing.{valid_variables}

@@ -10,7 +10,7 @@ use Rattle.wcsp.specs.Resolve.{no_row}
 use Rattle.clause.specs.Packed.{FitsBlocks, FullSigns}
 use Rattle.fields.proofs.Padding.{padded-length}
 use Rattle.table.proofs.FormTables.{holdable_carried}
-use Rattle.table.proofs.Carried.{AllCarried}
+use Rattle.table.specs.Carried.{AllCarried}
 use Rattle.rows.specs.Raw.{row_width, raw_at, raws_in, Laid, weight_in}
 use Rattle.table.specs.declared.Shape.{Shape}
 use Rattle.table.specs.Layout.{too_heavy}
@@ -18,7 +18,7 @@ use Rattle.table.specs.Meaning.{variables_of, row_count, table_sizes, table_rows
 use Rattle.table.specs.Valid.{valid_table}
 use Rattle.table.specs.Check.{full_clause, shape_of}
 use Rattle.table.specs.Raws.{row_of, raw_of}
-use Rattle.table.proofs.Twelve.{full_signs_padded, full-packed-padded}
+use Rattle.table.specs.TwelveSigns.{full_signs_padded, full-packed-padded}
 use Rattle.table.proofs.RawRows as raws
 use Rattle.table.proofs.Canonical.{passed, twelve_is_canonical}
 use Rattle.table.proofs.Finishing.{valid_count, valid_room, valid_raws, valid_laid}

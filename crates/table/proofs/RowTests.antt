@@ -15,7 +15,7 @@ use Rattle.clause.specs.Packed.{signs_of, FullSigns}
 use Rattle.rows.specs.Raw.{raw_at, clause_in}
 use Rattle.table.specs.Form.{TableForm}
 use Rattle.table.specs.Valid.{sign_kinds, valid_signs, all_below, valid_row_in}
-use Rattle.table.proofs.WordTests.{signs_test}
+use Rattle.table.specs.WordKinds.{signs_test}
 
 -- ---- one block
 

@@ -5,13 +5,12 @@ use mathlib.Core.Path.{◌≡◌, sym, ap, ◌∙◌}
 use mathlib.Core.Bool.{true}
 use mathlib.Core.List.{List, [], ◌∷◌, map}
 use lib.ListN.{length, get_or, replicate}
+use Rattle.std.specs.Prelude.{Option, Some, None}
 use Rattle.wcsp.specs.Row.{Row, weight_of, empty_weight}
 use Rattle.wcsp.specs.Resolve.{no_row}
 use Rattle.wcsp.proofs.EmptyRow.{weight_of-same, weight_of_other, weight_of_absent}
 use Rattle.clause.specs.declared.Clause.{Clause}
 use Rattle.clause.specs.Packed.{Holds}
-use Rattle.rows.specs.declared.Found.{Found}
-use Rattle.rows.specs.declared.Found.TheVariants.{At, Missing}
 use Rattle.rows.specs.Raw.{row_width, raw_at, raws_in, weight_in, raw_row, find_from}
 use Rattle.table.specs.Meaning.{variables_of, row_count, table_rows}
 use Rattle.table.specs.Valid.{valid_table}
@@ -27,15 +26,15 @@ first_weight c (r ∷ rs) (suc k) f =
     ∙ first_weight c rs k (record { within = omega (arith, f.within); has = f.has; before = λ i l. f.before (suc i) (omega arith) })
 
 module _ (t : List ℕ) (v : valid_table t ≡ true) (base count : ℕ) (b : base ≡ variables_of t + 2) (n : count ≡ row_count t) where
-  module _ (x : Clause) (h : Holds x (replicate 12 0)) (found : Found) (e : found ≡ find_from (raw_row x 0) 0 (raws_in t base count)) where
+  module _ (x : Clause) (h : Holds x (replicate 12 0)) (found : Option ℕ) (e : found ≡ find_from (raw_row x 0) 0 (raws_in t base count)) where
     searched : found ≡ find_from (raw_row x 0) 0 (map raw_of (table_rows t))
     searched = e ∙ ap (find_from (raw_row x 0) 0) (rw (b, n) (ready t v).raws)
 
-    pub no_empty : found ≡ Missing → 0 ≡ empty_weight 12 (table_rows t)
+    pub no_empty : found ≡ None → 0 ≡ empty_weight 12 (table_rows t)
     unfolding empty_weight
     no_empty q = sym (weight_of_absent (replicate 12 0) (rw h.signs_are at (found_missing x (ready t v).carried (sym searched ∙ q))))
 
-    module _ (k : ℕ) (q : found ≡ At k) where
+    module _ (k : ℕ) (q : found ≡ Some k) where
       first : FirstWith (replicate 12 0) (table_rows t) k
       first = rw h.signs_are at (found_at x (ready t v).carried k (sym searched ∙ q))
 

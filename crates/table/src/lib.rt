@@ -1,7 +1,7 @@
 // Tables that a caller hands in: valid or not, the shape of a valid one, and its empty row's weight.
 #![tactic(auto)]
 
-ghost use Rattle.std.specs.Prelude.{◌≡◌, true, ◌&&◌, List, ◌++◌, ℕ, ◌+◌, ◌-◌, ◌*◌, ◌/◌, ◌<◌, ◌≤◌, min, length, take, drop, replicate};
+ghost use Rattle.std.specs.Prelude.{◌≡◌, true, ◌&&◌, List, ◌++◌, ℕ, ◌+◌, ◌-◌, ◌*◌, ◌/◌, ◌<◌, ◌≤◌, min, length, take, drop, replicate, Some, None};
 ghost use Rattle.wcsp.specs.Sign.{full};
 ghost use Rattle.wcsp.specs.Row.{empty_weight};
 ghost use Rattle.words.specs.Layout.{unpacked};
@@ -9,19 +9,20 @@ ghost use Rattle.clause.specs.Packed.{signs_of, FitsBlocks, FullSigns};
 ghost use Rattle.fields.specs.Limits.{max_variables, max_values};
 ghost use Rattle.fields.specs.Front.{head_in, headed, size_in};
 ghost use Rattle.rows.specs.Raw.{row_width};
-ghost use Rattle.table.specs.declared.Head.TheVariants.{Variables, Absent};
 ghost use Rattle.table.specs.Layout.{max_rows, rows_at, capacity};
-ghost use Rattle.table.specs.Meaning.{variables_of, row_count, rows_from, table_rows};
-ghost use Rattle.table.specs.Valid.{sign_kinds, valid_signs, valid_row, rows_valid, distinct_rows, all_zero, all_below, valid_table};
-ghost use Rattle.table.specs.Check.{fulls_from, fulls_in, shape_of, front_table, check_table};
+ghost use Rattle.table.specs.Meaning.{variables_of, row_count, rows_from_in, table_rows};
+ghost use Rattle.table.specs.Valid.{sign_kinds, valid_signs, valid_row_in, rows_valid_in, distinct_rows, all_zero, all_below, valid_table};
+ghost use Rattle.table.specs.Check.{fulls_from, fulls_in, shape_of, front_table, check_table_in, check_table};
 
+pub mod forms;
+
+use crate::forms::{RowForm, Six};
 use clause::Clause;
-use rows::Found;
 
-// The most rows of a table.
+/// The most rows of a table.
 pub const MAX_ROWS: usize = 4096;
 
-// A valid table's number of variables, number of rows, and the full signs of twelve variables.
+/// A valid table's number of variables, number of rows, and the full signs of twelve variables.
 #[derive(Clone, Copy)]
 pub struct Shape {
     pub variables: usize,
@@ -29,27 +30,7 @@ pub struct Shape {
     pub fulls: Clause,
 }
 
-#[derive(Clone, Copy)]
-pub enum Checked {
-    Table(Shape),
-    Invalid,
-}
-
-// The number of variables that a head gives.
-#[derive(Clone, Copy)]
-enum Head {
-    Variables(usize),
-    Absent,
-}
-
-// The full signs of the sizes that the station words give.
-#[derive(Clone, Copy)]
-pub enum Fulls {
-    Signs(Clause),
-    Bad,
-}
-
-// The full sign of d values.
+/// The full sign of d values.
 pub fn full_sign(d: u32) -> u32
     requires { d ≤ max_values }
     ensures { (result ≡ full d) × (result < 256) }
@@ -57,7 +38,7 @@ pub fn full_sign(d: u32) -> u32
     (1u32 << d) - 1
 }
 
-// How many rows of so many words a slice of this length takes over n variables.
+/// How many rows of so many words a slice of this length takes over n variables.
 pub fn rows_in(len: usize, n: usize, width: usize) -> usize
     requires { (rows_at n ≤ len) × (0 < width) }
     ensures { (result ≡ min max_rows ((len - rows_at n) / width)) × (result ≤ max_rows) }
@@ -69,7 +50,7 @@ pub fn rows_in(len: usize, n: usize, width: usize) -> usize
     rows
 }
 
-// How many rows a slice of this length takes over n variables.
+/// How many rows a slice of this length takes over n variables.
 pub fn room(len: usize, n: usize) -> usize
     requires { rows_at n ≤ len }
     ensures { (result ≡ capacity len n) × (result ≤ max_rows) }
@@ -77,7 +58,7 @@ pub fn room(len: usize, n: usize) -> usize
     rows_in(len, n, rows::WIDTH)
 }
 
-// The domain size that a station word gives, 0 if it is none from 1 to 8.
+/// The domain size that a station word gives, 0 if it is none from 1 to 8.
 fn size_in(w: u32) -> u32
     ensures { (result ≡ size_in w) × (result ≤ max_values) }
 {
@@ -91,21 +72,21 @@ fn size_in(w: u32) -> u32
     d
 }
 
-// The number of variables that the word gives, if it is a head of 0 to 12.
-fn head_in(w: u32) -> Head
-    ensures { result ≡ headed Absent Variables (head_in w) }
+/// The number of variables that the word gives, if it is a head of 0 to 12.
+fn head_in(w: u32) -> Option<usize>
+    ensures { result ≡ headed None Some (head_in w) }
 {
     if words::kind(w) != 1 {
-        return Head::Absent;
+        return None;
     }
     let n = words::payload(w) as usize;
     if fields::MAX_VARIABLES < n {
-        return Head::Absent;
+        return None;
     }
-    Head::Variables(n)
+    Some(n)
 }
 
-// The signs of the block each lie below the full one beside it.
+/// The signs of the block each lie below the full one beside it.
 fn block_below(x: u32, full: u32) -> bool
     requires { (x < 16777216) × (full < 16777216) }
     ensures { result ≡ all_below (unpacked x) (unpacked full) }
@@ -119,7 +100,7 @@ fn block_below(x: u32, full: u32) -> bool
     x / 65536 < full / 65536
 }
 
-// No sign of the clause is full or beyond its variable's values.
+/// No sign of the clause is full or beyond its variable's values.
 pub fn signs_valid(x: Clause, fulls: Clause) -> bool
     requires { FitsBlocks x × FitsBlocks fulls }
     ensures { (ds : List ℕ) → FullSigns fulls ds → result ≡ valid_signs ds (signs_of x) }
@@ -136,7 +117,7 @@ pub fn signs_valid(x: Clause, fulls: Clause) -> bool
     block_below(x.d, fulls.d)
 }
 
-// The four words at this place are sign words, in order.
+/// The four words at this place are sign words, in order.
 pub fn signs_there(t: &[u32], at: usize) -> bool
     requires { at + 4 ≤ length t.now }
     ensures { result ≡ sign_kinds (drop at t.now) }
@@ -153,42 +134,39 @@ pub fn signs_there(t: &[u32], at: usize) -> bool
     t[at + 3] / 16777216 == 83
 }
 
-// The words at this place are a row's.
-fn row_valid(t: &[u32], at: usize, fulls: Clause) -> bool
-    requires { (at + row_width ≤ length t.now) × FitsBlocks fulls }
-    ensures { (ds : List ℕ) → FullSigns fulls ds → result ≡ valid_row ds (drop at t.now) }
+/// The words at this place are a row's.
+fn row_valid<F: RowForm>(t: &[u32], at: usize, fulls: Clause) -> bool
+    requires { (at + F.form.rows.width ≤ length t.now) × FitsBlocks fulls }
+    ensures { (ds : List ℕ) → FullSigns fulls ds → result ≡ valid_row_in F.form ds (drop at t.now) }
 {
     if !signs_there(t, at) {
         return false;
     }
-    if !rows::weight_there(t, at) {
+    if !F::weighs(t, at) {
         return false;
     }
     signs_valid(rows::clause_at(t, at), fulls)
 }
 
-// Every row is one, and none has the signs of an earlier row.
-fn rows_valid(t: &[u32], base: usize, count: usize, fulls: Clause) -> bool
-    requires { (base + row_width * count ≤ length t.now) × FitsBlocks fulls }
-    ensures { (ds : List ℕ) → FullSigns fulls ds → result ≡ (rows_valid ds count (drop base t.now) && distinct_rows (rows_from count (drop base t.now))) }
+/// Every row is one, and none has the signs of an earlier row.
+fn rows_valid<F: RowForm>(t: &[u32], base: usize, count: usize, fulls: Clause) -> bool
+    requires { (base + F.form.rows.width * count ≤ length t.now) × FitsBlocks fulls }
+    ensures { (ds : List ℕ) → FullSigns fulls ds → result ≡ (rows_valid_in F.form ds count (drop base t.now) && distinct_rows (rows_from_in F.form count (drop base t.now))) }
 {
-    let mut k = 0;
-    let mut at = base;
-    while k < count {
-        if !row_valid(t, at, fulls) {
+    for k in 0..count {
+        let at = base + F::WIDTH * k;
+        if !row_valid::<F>(t, at, fulls) {
             return false;
         }
-        let found = rows::find(t, base, k, rows::clause_of(t, base, k));
-        let Found::Missing = found else {
+        let earlier = rows::find_spaced(t, base, k, F::WIDTH, rows::clause_at(t, at));
+        if earlier.is_some() {
             return false;
-        };
-        at += rows::WIDTH;
-        k += 1;
+        }
     }
     true
 }
 
-// Every word from this place on is 0.
+/// Every word from this place on is 0.
 pub fn all_zero_from(t: &[u32], at: usize) -> bool
     requires { at ≤ length t.now }
     ensures { result ≡ all_zero (drop at t.now) }
@@ -203,7 +181,7 @@ pub fn all_zero_from(t: &[u32], at: usize) -> bool
     true
 }
 
-// Zeros from an index to the end of the slice.
+/// Zeros from an index to the end of the slice.
 pub fn zero_from(t: &mut [u32], at: usize)
     requires { at ≤ length t.old }
     ensures { t.new ≡ take at t.old ++ replicate (length t.old - at) 0 }
@@ -215,8 +193,8 @@ pub fn zero_from(t: &mut [u32], at: usize)
     }
 }
 
-// The full signs of twelve variables, n of them with the sizes of the words behind the head, or a word there that is no size.
-fn read_fulls(t: &[u32], n: usize) -> Fulls
+/// The full signs of twelve variables, n of them with the sizes of the words behind the head, or a word there that is no size.
+fn read_fulls(t: &[u32], n: usize) -> Option<Clause>
     requires { (n + 1 ≤ length t.now) × (n ≤ max_variables) }
     ensures { result ≡ fulls_from n (drop 1 t.now) }
 {
@@ -230,70 +208,75 @@ fn read_fulls(t: &[u32], n: usize) -> Fulls
     while i < n {
         let d = size_in(t[i + 1]);
         if d == 0 {
-            return Fulls::Bad;
+            return None;
         }
         fulls = fulls.replaced(i as u32, full_sign(d));
         i += 1;
     }
-    Fulls::Signs(fulls)
+    Some(fulls)
 }
 
-// The shape that head, sizes and row count give, where these words are there; nothing behind them is looked at.
+/// The shape that head, sizes and row count give, where these words are there; nothing behind them is looked at.
 #[tactic(auto, using(crate::proofs::Checking::too_short))]
-pub fn front(t: &[u32]) -> Checked
+pub fn front(t: &[u32]) -> Option<Shape>
     ensures { result ≡ front_table t.now }
 {
     if t.len() == 0 {
-        return Checked::Invalid;
+        return None;
     }
-    let Head::Variables(n) = head_in(t[0]) else {
-        return Checked::Invalid;
+    let Some(n) = head_in(t[0]) else {
+        return None;
     };
     if t.len() < n + 2 {
-        return Checked::Invalid;
+        return None;
     }
-    let Fulls::Signs(fulls) = read_fulls(t, n) else {
-        return Checked::Invalid;
+    let Some(fulls) = read_fulls(t, n) else {
+        return None;
     };
     let word = t[n + 1];
     if words::kind(word) != 10 {
-        return Checked::Invalid;
+        return None;
     }
-    Checked::Table(Shape {
+    Some(Shape {
         variables: n,
         count: words::payload(word) as usize,
         fulls,
     })
 }
 
-// The test of a whole slice: valid exactly as documents 01 and 02 say.
-pub fn check(t: &[u32]) -> Checked
-    ensures returned { result ≡ check_table t.now }
+/// The shape of a table with rows of this form: of a slice that is valid exactly as documents 01 and 02 say, and none of another.
+pub fn check_in<F: RowForm>(t: &[u32]) -> Option<Shape>
+    ensures { result ≡ check_table_in F.form t.now }
 {
-    let Checked::Table(shape) = front(t) else {
-        return Checked::Invalid;
-    };
+    let shape = front(t)?;
     let n = shape.variables;
     let count = shape.count;
-    if room(t.len(), n) < count {
-        return Checked::Invalid;
+    if rows_in(t.len(), n, F::WIDTH) < count {
+        return None;
     }
-    if !rows_valid(t, n + 2, count, shape.fulls) {
-        return Checked::Invalid;
+    if !rows_valid::<F>(t, n + 2, count, shape.fulls) {
+        return None;
     }
-    if !all_zero_from(t, n + 2 + rows::WIDTH * count) {
-        return Checked::Invalid;
+    if !all_zero_from(t, n + 2 + F::WIDTH * count) {
+        return None;
     }
-    Checked::Table(shape)
+    Some(shape)
 }
 
-// The full signs that were read, no sign where there were none.
-fn fulls_in(read: Fulls) -> Clause
+/// The shape of a table with rows of six words, the form that all calls but one take.
+pub fn check(t: &[u32]) -> Option<Shape>
+    ensures returned { result ≡ check_table t.now }
+{
+    check_in::<Six>(t)
+}
+
+/// The full signs that were read, no sign where there were none.
+fn fulls_in(read: Option<Clause>) -> Clause
     ensures { result ≡ fulls_in read }
 {
     match read {
-        Fulls::Signs(fulls) => fulls,
-        Fulls::Bad => Clause {
+        Some(fulls) => fulls,
+        None => Clause {
             a: 0,
             b: 0,
             c: 0,
@@ -302,7 +285,7 @@ fn fulls_in(read: Fulls) -> Clause
     }
 }
 
-// The shape of a valid table, without the test of its rows.
+/// The shape of a valid table, without the test of its rows.
 pub fn read_shape(t: &[u32]) -> Shape
     requires { valid_table t.now ≡ true }
     ensures { result ≡ shape_of t.now }
@@ -317,13 +300,13 @@ pub fn read_shape(t: &[u32]) -> Shape
     }
 }
 
-// The empty row's weight in a valid table, 0 if there is none.
+/// The empty row's weight in a valid table, 0 if there is none.
 pub fn empty_weight(t: &[u32], base: usize, count: usize) -> u64
     requires { (valid_table t.now ≡ true) × (base ≡ variables_of t.now + 2) × (count ≡ row_count t.now) }
     ensures { result ≡ empty_weight max_variables (table_rows t.now) }
 {
     let found = rows::find(t, base, count, Clause::empty());
-    let Found::At(k) = found else {
+    let Some(k) = found else {
         return 0;
     };
     rows::weight_of(t, base, k)

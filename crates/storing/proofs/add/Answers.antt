@@ -25,18 +25,18 @@ returns-in_default c =
 
 pub weight_of-requires : goal.weight_of-requires
 weight_of-requires c =
-    found_fits _ _ _ _ _ c.requires c.if-weight-eq0.false _ c.find-found.ensures _ c.in-At.is
+    found_fits _ _ _ _ _ c.requires c.if-weight-eq0.false _ c.find-found.ensures _ c.in-Some.is
 
 pub overflow_add-sum : goal.overflow_add-sum
 overflow_add-sum c =
-    let h = sum_small _ _ _ _ _ c.requires c.if-weight-eq0.false _ c.find-found.ensures _ c.in-At.is _ c.weight_of.ensures.0 in
+    let h = sum_small _ _ _ _ _ c.requires c.if-weight-eq0.false _ c.find-found.ensures _ c.in-Some.is _ c.weight_of.ensures.0 in
     omega arith
 
 pub reweigh-requires : goal.reweigh-requires
 reweigh-requires c =
     let p = c.requires in
     let some = c.if-weight-eq0.false in
-    let at = c.in-At.is in (
+    let at = c.in-Some.is in (
       p.laid,
       rows_fit _ _ _ _ _ p,
       found_within _ _ _ _ _ p some _ c.find-found.ensures _ at,
@@ -45,5 +45,5 @@ reweigh-requires c =
 
 pub returns : goal.returns
 returns c =
-    reweighed_as _ _ _ _ _ c.requires c.if-weight-eq0.false _ c.find-found.ensures _ c.in-At.is
+    reweighed_as _ _ _ _ _ c.requires c.if-weight-eq0.false _ c.find-found.ensures _ c.in-Some.is
     _ c.weight_of.ensures.0 _ c.reweigh.ensures

@@ -1,11 +1,11 @@
--- `append` meets its contract: what `write_row` leaves of the part lent to it, put back, is one more raw row in the table.
-use native.Mathlib.Omega.{arith}
-use Rattle.rows.specs.Raw.{raw_row, row_form}
-use Rattle.rows.proofs.Flat.{row_laws}
-use Rattle.storing.proofs.FormTables.{row_lent}
+-- `append` meets its contract: the row that the clause's signs say is the clause's own.
+use mathlib.Core.Path.{ap, subst}
+use mathlib.Core.List.{[], ◌∷◌, ◌++◌}
+use Rattle.rows.specs.Raw.{raws_in, Left, raw_row}
+use Rattle.table.specs.TwelveSigns.{clause_from_signs}
 use Rattle.storing.proofs.append.Goals as goal
 
 pub returns : goal.returns
 returns c =
-    let g = c.args in
-    row_lent row_form row_laws g.t.now g.base g.count (raw_row g.x g.weight) c.write_row.new.part c.requires.0 (omega arith) c.write_row.ensures
+    let a = c.args in
+    subst (λ y. Left a.t.now a.base c.append_in.new.t (raws_in a.t.now a.base a.count ++ (raw_row y a.weight ∷ []))) (clause_from_signs a.x) c.append_in.ensures

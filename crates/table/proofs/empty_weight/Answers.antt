@@ -15,9 +15,9 @@ returns-in_default c =
 pub weight_of-requires : goal.weight_of-requires
 weight_of-requires c =
     weight_room c.args.t.now c.requires.0 c.args.base c.args.count c.requires.1 c.requires.2 _ c.empty.ensures _ c.find-found.ensures
-    c.in-At.k c.in-At.is
+    c.in-Some.k c.in-Some.is
 
 pub returns : goal.returns
 returns c =
     empty_at c.args.t.now c.requires.0 c.args.base c.args.count c.requires.1 c.requires.2 _ c.empty.ensures _ c.find-found.ensures
-    c.in-At.k c.in-At.is _ c.weight_of.ensures.0
+    c.in-Some.k c.in-Some.is _ c.weight_of.ensures.0

@@ -1,6 +1,6 @@
 -- `head_in` reads a word by its kind and payload.
 use native.Mathlib.Omega.{arith}
-use Rattle.table.proofs.WordTests.{head_other, head_high, head_read}
+use Rattle.table.specs.WordKinds.{head_other, head_high, head_read}
 use Rattle.table.proofs.head_in.Goals as goal
 
 pub returns-then-kind-ne1 : goal.returns-then-kind-ne1

@@ -5,11 +5,11 @@ use mathlib.Core.Path.{◌≡◌, refl, ap, ◌∙◌}
 use mathlib.Core.Bool.{true}
 use mathlib.Core.List.{List}
 use lib.ListN.{length, get_or, drop}
+use Rattle.std.specs.Prelude.{Option}
 use Rattle.words.specs.Layout.{payload_of}
 use Rattle.clause.specs.declared.Clause.{Clause}
 use Rattle.fields.specs.Limits.{max_variables}
 use Rattle.table.specs.declared.Shape.{Shape}
-use Rattle.table.specs.declared.Fulls.{Fulls}
 use Rattle.table.specs.Layout.{rows_at}
 use Rattle.table.specs.Meaning.{table_sizes, domains, row_count}
 use Rattle.table.specs.Valid.{valid_table}
@@ -21,7 +21,7 @@ module _ (t : List ℕ) (v : valid_table t ≡ true) (n : ℕ) (e : n ≡ payloa
   there : (rows_at n ≤ length t) × (n ≤ max_variables)
   there = let p = passed t v in rw e (p.room, p.few)
 
-  shape_is : (count : ℕ) → count ≡ payload_of (get_or t (n + 1) 0) → (read : Fulls) → read ≡ fulls_from n (drop 1 t) → (fulls : Clause) → fulls ≡ fulls_in read
+  shape_is : (count : ℕ) → count ≡ payload_of (get_or t (n + 1) 0) → (read : Option Clause) → read ≡ fulls_from n (drop 1 t) → (fulls : Clause) → fulls ≡ fulls_in read
       → ◌≡◌ {A = Shape} (record { variables = n; count = count; fulls = fulls }) (shape_of t)
   unfolding fulls_from fulls_in domains table_sizes
   shape_is count f read g fulls h =

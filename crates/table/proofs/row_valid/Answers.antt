@@ -1,21 +1,30 @@
 -- `row_valid` meets its contract: the sign words first, then the weight, then the signs.
-use Rattle.table.specs.Raws.{standard_form}
-use Rattle.table.proofs.RawRows.{signs_front}
+use native.Mathlib.Omega.{arith}
+use Rattle.table.proofs.FormTests.{signs_front}
 use Rattle.table.proofs.RowTests.{wrong_signs, wrong_weight, as_signs}
 use Rattle.table.proofs.row_valid.Goals as goal
 
-pub returns-then-not-signs_there : goal.returns-then-not-signs_there
-returns-then-not-signs_there c =
-    let g = c.args in
-    λ ds h. wrong_signs standard_form g.t.now g.at (signs_front g.t.now g.at) _ c.signs_there.ensures c.if-not-signs_there.true ds
+pub signs_there-requires : goal.signs_there-requires
+signs_there-requires g c = omega (arith, g.met.F.RowForm.laws.wide)
 
-pub returns-then-not-weight_there : goal.returns-then-not-weight_there
-returns-then-not-weight_there c =
-    let g = c.args in
-    λ ds h. wrong_weight standard_form g.t.now g.at (signs_front g.t.now g.at) _ c.weight_there.ensures c.if-not-weight_there.true ds
+pub clause_at-requires : goal.clause_at-requires
+clause_at-requires g c = omega (arith, g.met.F.RowForm.laws.wide)
+
+pub returns-then-not-signs_there : goal.returns-then-not-signs_there
+returns-then-not-signs_there g c =
+    let f = g.F.RowForm.form in
+    let a = c.args in
+    λ ds h. wrong_signs f a.t.now a.at (signs_front f g.met.F.RowForm.laws a.t.now a.at) _ c.signs_there.ensures c.if-not-signs_there.true ds
+
+pub returns-then-not-weighs : goal.returns-then-not-weighs
+returns-then-not-weighs g c =
+    let f = g.F.RowForm.form in
+    let a = c.args in
+    λ ds h. wrong_weight f a.t.now a.at (signs_front f g.met.F.RowForm.laws a.t.now a.at) _ c.weighs.ensures c.if-not-weighs.true ds
 
 pub returns : goal.returns
-returns c =
-    let g = c.args in
-    as_signs standard_form g.t.now g.at (signs_front g.t.now g.at) _ _ _ g.fulls _ c.signs_there.ensures c.if-not-signs_there.false
-    c.weight_there.ensures c.if-not-weight_there.false c.clause_at.ensures.0 c.signs_valid.ensures
+returns g c =
+    let f = g.F.RowForm.form in
+    let a = c.args in
+    as_signs f a.t.now a.at (signs_front f g.met.F.RowForm.laws a.t.now a.at) _ _ _ a.fulls _ c.signs_there.ensures c.if-not-signs_there.false
+    c.weighs.ensures c.if-not-weighs.false c.clause_at.ensures.0 c.signs_valid.ensures

@@ -1,6 +1,6 @@
 -- `size_in` reads a word by its kind and payload.
 use native.Mathlib.Omega.{arith}
-use Rattle.table.proofs.WordTests.{size_other, size_high, size_read}
+use Rattle.table.specs.WordKinds.{size_other, size_high, size_read}
 use Rattle.table.proofs.size_in.Goals as goal
 
 pub returns-then-kind-ne2 : goal.returns-then-kind-ne2

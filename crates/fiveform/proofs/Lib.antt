@@ -1,3 +1,0 @@
--- The laws of this crate that belong to no one function.
-pub mod FiveLaws
-pub mod FiveTests

@@ -1,2 +1,0 @@
--- Tables from last year: their form.
-pub mod Five
