@@ -95,7 +95,7 @@ disjoint_block x y u w =
     (λ i. eqb (p i) 0 && (eqb (q i) 0 && (eqb (r i) 0 && disjoint u w))) ∙ parts_zero (bit_and x y) (disjoint u w)
 
 module _ (x y : Clause) where
-  disjoint_clauses : disjoint (signs_of x) (signs_of y)
+  pub disjoint_clauses : disjoint (signs_of x) (signs_of y)
       ≡ (eqb (bit_and x.a y.a) 0 && (eqb (bit_and x.b y.b) 0 && (eqb (bit_and x.c y.c) 0 && (eqb (bit_and x.d y.d) 0 && true))))
   unfolding signs_of disjoint
   disjoint_clauses =
@@ -105,28 +105,3 @@ module _ (x y : Clause) where
       ∙ ap (λ b. eqb (bit_and x.b y.b) 0 && b)
       (disjoint_block x.c y.c (unpacked x.d) (unpacked y.d)
       ∙ ap (λ b. eqb (bit_and x.c y.c) 0 && b) (disjoint_block x.d y.d [] [])))
-
-  pub common_a : (bit_and x.a y.a ≡ 0 → ⊥) → false ≡ disjoint (signs_of x) (signs_of y)
-  common_a h = sym (disjoint_clauses ∙ rw (ne_eqb (bit_and x.a y.a) 0 h))
-
-  pub common_b : bit_and x.a y.a ≡ 0 → (bit_and x.b y.b ≡ 0 → ⊥) → false ≡ disjoint (signs_of x) (signs_of y)
-  common_b e h = sym (disjoint_clauses ∙ rw (eq-eqb (bit_and x.a y.a) 0 e, ne_eqb (bit_and x.b y.b) 0 h))
-
-  pub common_c : bit_and x.a y.a ≡ 0 → bit_and x.b y.b ≡ 0 → (bit_and x.c y.c ≡ 0 → ⊥)
-      → false ≡ disjoint (signs_of x) (signs_of y)
-  common_c e f h =
-      sym
-      (disjoint_clauses
-      ∙ rw (eq-eqb (bit_and x.a y.a) 0 e, eq-eqb (bit_and x.b y.b) 0 f, ne_eqb (bit_and x.c y.c) 0 h))
-
-  pub common_d : bit_and x.a y.a ≡ 0 → bit_and x.b y.b ≡ 0 → bit_and x.c y.c ≡ 0
-      → eqb (bit_and x.d y.d) 0 ≡ disjoint (signs_of x) (signs_of y)
-  common_d e f g =
-      sym
-      (disjoint_clauses
-      ∙ rw (eq-eqb (bit_and x.a y.a) 0 e, eq-eqb (bit_and x.b y.b) 0 f, eq-eqb (bit_and x.c y.c) 0 g)
-      (last (eqb (bit_and x.d y.d) 0)))
-    where
-      last : (b : Bool) → (b && true) ≡ b
-      last true = refl
-      last false = refl

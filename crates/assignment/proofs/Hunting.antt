@@ -2,9 +2,9 @@
 use Prim.Native.Nat.{ℕ, ◌+◌, ◌-◌, ◌*◌, ◌≤◌}
 use native.Mathlib.Omega.{arith}
 use mathlib.Core.Path.{◌≡◌, refl, sym, ap, ◌∙◌}
-use mathlib.Core.Bool.{true, false}
 use mathlib.Core.List.{List}
-use mathlib.Core.Option.{Option, none, some}
+use mathlib.Core.Option as math
+use Rattle.std.specs.Prelude.{Option, is_some, true}
 use lib.ListN.{length, drop}
 use Rattle.wcsp.specs.Resolve.{Pair, pair_from}
 use Rattle.wcsp.proofs.Unsettled.{hunt_from}
@@ -15,23 +15,17 @@ use Rattle.table.specs.Meaning.{rows_from, table_rows, domains}
 use Rattle.table.specs.Valid.{valid_table}
 use Rattle.table.specs.Check.{shape_of}
 use Rattle.table.proofs.Own.{own_next}
-use Rattle.hunt.specs.declared.Hunted.{Hunted}
-use Rattle.hunt.specs.declared.Hunted.TheVariants.{Next, Nothing}
+use Rattle.hunt.specs.declared.Next.{Next}
 use Rattle.hunt.specs.Hunt.{hunted_of}
 use Rattle.hunt.proofs.Climbing as climbing
 use Rattle.assignment.specs.Order.{is_left, table_pair}
 use Rattle.assignment.proofs.Tables.{rows_valid_lem, rows_within, rows_are, fulls_are, fulls_packed}
 
 -- what a hunt's answer says of whether a pair is left
-next_left : (o : Option Pair) (a b d : ℕ) → hunted_of 0 o ≡ Next a b d → is_left o ≡ true
+some_left : (o : math.Option Pair) → is_some (hunted_of 0 o) ≡ is_left o
 unfolding hunted_of is_left
-next_left none a b d e = let z : ◌≡◌ {A = ℕ} 0 1 = cc in absurd (omega arith)
-next_left (some pr) a b d e = refl
-
-nothing_left : (o : Option Pair) → hunted_of 0 o ≡ Nothing → is_left o ≡ false
-unfolding hunted_of is_left
-nothing_left none e = refl
-nothing_left (some pr) e = let z : ◌≡◌ {A = ℕ} 0 1 = cc in absurd (omega arith)
+some_left math.none = refl
+some_left (math.some pr) = refl
 
 module _ (t : List ℕ) (v : valid_table t ≡ true) (shape : Shape) (s : shape ≡ shape_of t) where
   rows : rows_from shape.count (drop (shape.variables + 2) t) ≡ table_rows t
@@ -40,7 +34,7 @@ module _ (t : List ℕ) (v : valid_table t ≡ true) (shape : Shape) (s : shape 
   pub may_hunt : (shape.variables + 2 + row_width * shape.count ≤ length t) × FitsBlocks shape.fulls
   may_hunt = (rows_within t v shape s, fulls_packed t v shape s)
 
-  module _ (found : Hunted)
+  module _ (found : Option Next)
       (sought : climbing.Over t (shape.variables + 2) shape.count 0 0 0 shape.fulls
       (λ ds. found ≡ hunted_of 0 (pair_from ds (length ds - 0) 0 (rows_from shape.count (drop (shape.variables + 2) t))))) where
     hunted : hunted_of 0 (table_pair t) ≡ found
@@ -53,8 +47,5 @@ module _ (t : List ℕ) (v : valid_table t ≡ true) (shape : Shape) (s : shape 
         ∙ ap (λ rs. hunted_of 0 (pair_from (domains t) (length (domains t) - 0) 0 rs)) rows
         ∙ ap (hunted_of 0) (hunt_from (domains t) (table_rows t) (table_rows t) 0 (omega arith) refl ∙ own_next t v))
 
-    pub pair_found : (a b d : ℕ) → found ≡ Next a b d → true ≡ is_left (table_pair t)
-    pair_found a b d e = sym (next_left (table_pair t) a b d (hunted ∙ e))
-
-    pub none_found : found ≡ Nothing → false ≡ is_left (table_pair t)
-    none_found e = sym (nothing_left (table_pair t) (hunted ∙ e))
+    pub found_left : is_some found ≡ is_left (table_pair t)
+    found_left = ap is_some (sym hunted) ∙ some_left (table_pair t)

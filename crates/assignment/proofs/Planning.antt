@@ -5,10 +5,11 @@ use native.Mathlib.Omega.{arith}
 use mathlib.Core.Path.{◌≡◌, refl, sym, subst, ap, ◌∙◌}
 use mathlib.Core.Bool.{Bool, true, false, false≢true}
 use mathlib.Core.List.{List, [], ◌++◌}
-use mathlib.Core.Option.{Option, none, some}
+use mathlib.Core.Option.{Option as Maybe, none, some}
 use lib.ListN.{length, drop, replicate, replicate-append-replicate}
 use lib.Seq.{slice, slice_empty, drop-length}
 use borrow.Author.Tests.{lt-ltb, le-ltb}
+use Rattle.std.specs.Prelude.{Option, Some, None}
 use Rattle.wcsp.specs.Clause.{InRange, nil}
 use Rattle.wcsp.specs.Row.{empty_weight}
 use Rattle.wcsp.specs.Resolve.{Pair}
@@ -18,8 +19,6 @@ use Rattle.clause.specs.Packed.{Holds}
 use Rattle.fields.specs.Limits.{max_variables, forbidden_cost}
 use Rattle.fields.specs.Padding.{lacking}
 use Rattle.table.specs.declared.Shape.{Shape}
-use Rattle.table.specs.declared.Checked.{Checked}
-use Rattle.table.specs.declared.Checked.TheVariants.{Table, Invalid}
 use Rattle.table.specs.Meaning.{variables_of, row_count, table_sizes, table_rows}
 use Rattle.table.specs.Valid.{valid_table}
 use Rattle.table.specs.Check.{shape_of, check_table}
@@ -37,12 +36,12 @@ PlanLeft t target number after = ◌≡◌ {A = PlanReturned} (record { number =
 
 -- ---- whether a pair is left
 
-pub left_none : (o : Option Pair) → false ≡ is_left o → o ≡ none
+pub left_none : (o : Maybe Pair) → false ≡ is_left o → o ≡ none
 unfolding is_left
 left_none none e = refl
 left_none (some pr) e = absurd (false≢true e)
 
-plan_left : (t target : List ℕ) (o : Option Pair) → true ≡ is_left o → plan_on t target o ≡ record { number = 13; target = target }
+plan_left : (t target : List ℕ) (o : Maybe Pair) → true ≡ is_left o → plan_on t target o ≡ record { number = 13; target = target }
 unfolding plan_on is_left
 plan_left t target none e = absurd (false≢true (sym e))
 plan_left t target (some pr) e = refl
@@ -88,11 +87,11 @@ none_in_range t v = rw (← valid_variables t v, drop-length) nil
 
 -- ---- the returns
 
-module _ (t : List ℕ) (checked : Checked) (answer : checked ≡ check_table t) where
-  pub not_a_table : (target : List ℕ) → checked ≡ Invalid → PlanLeft t target 9 target
+module _ (t : List ℕ) (checked : Option Shape) (answer : checked ≡ check_table t) where
+  pub not_a_table : (target : List ℕ) → checked ≡ None → PlanLeft t target 9 target
   not_a_table target e = sym (call_invalid t target (table_invalid t checked answer e))
 
-  module _ (shape : Shape) (is : checked ≡ Table shape) where
+  module _ (shape : Shape) (is : checked ≡ Some shape) where
     pub told : (valid_table t ≡ true) × (shape ≡ shape_of t)
     told = table_valid t checked answer shape is
 

@@ -20,7 +20,7 @@ use Rattle.assignment.specs.Chosen.{singles, carried_signs}
 use Rattle.assignment.proofs.Bit.{shifted}
 use Rattle.assignment.proofs.Choosing.{set_below}
 use Rattle.assignment.proofs.Tables.{few_sizes}
-use Rattle.completion.specs.declared.FixedValues.TheVariants.{Fit, Unfit}
+use Rattle.std.specs.Prelude.{Some, None}
 use Rattle.completion.specs.Fixed.{Carrying}
 use Rattle.completion.proofs.Fitting.{fits_of, k_above, other_number, too_high, unfit, carried}
 
@@ -39,10 +39,10 @@ module _ (t : List ℕ) (v : valid_table t ≡ true) (n : ℕ) (variables : n �
   all : length ds ≡ n
   all = valid_variables t v ∙ sym variables
 
-  pub high_start : n < k → Carrying ds k fixed Unfit
+  pub high_start : n < k → Carrying ds k fixed None
   high_start h = unfit ds k fixed (k_above ds k fixed (omega (arith, all)))
 
-  pub wrong_number : k ≤ n → (length fixed + k ≡ n → ⊥) → Carrying ds k fixed Unfit
+  pub wrong_number : k ≤ n → (length fixed + k ≡ n → ⊥) → Carrying ds k fixed None
   wrong_number l h = unfit ds k fixed (other_number ds k fixed (λ e. h (omega (arith, all))))
 
   module _ (low : k ≤ n) (long : length fixed + k ≡ n) where
@@ -75,7 +75,7 @@ module _ (t : List ℕ) (v : valid_table t ≡ true) (n : ℕ) (variables : n �
           ∙ ap payload_of (get_or-take (variables_of t) (drop 1 t) i 0 (omega (arith, c.last, valid_variables t v)) ∙ get_or-drop 1 t i 0 ∙ ap (λ m. get_or t m 0) w)
 
       module _ (d : ℕ) (size : d ≡ payload_of (get_or t (i + 1) 0)) where
-        pub out_of_range : d ≤ get_or fixed at 0 → Carrying ds k fixed Unfit
+        pub out_of_range : d ≤ get_or fixed at 0 → Carrying ds k fixed None
         out_of_range h =
             let w : k + at ≡ i = omega arith in
             unfit ds k fixed (too_high ds k fixed at value_there (rw w (omega (arith, size_here))))
@@ -104,7 +104,7 @@ module _ (t : List ℕ) (v : valid_table t ≡ true) (n : ℕ) (variables : n �
               }
 
     -- all are carried
-    pub all_carried : (i : ℕ) (chosen : Clause) → i ≤ k → CarriedFrom ds k fixed i chosen → Carrying ds k fixed (Fit chosen)
+    pub all_carried : (i : ℕ) (chosen : Clause) → i ≤ k → CarriedFrom ds k fixed i chosen → Carrying ds k fixed (Some chosen)
     all_carried i chosen h c =
         let z : c.at ≡ 0 = omega (arith, c.placed) in
         let w : i ≡ k = omega (arith, c.placed) in

@@ -4,22 +4,21 @@ use native.Mathlib.Omega.{arith}
 use mathlib.Core.Path.{◌≡◌, refl, sym, ap, ap₂, ◌∙◌}
 use mathlib.Core.Bool.{Bool, true, false, false≢true}
 use mathlib.Core.List.{List, ◌++◌}
-use mathlib.Core.Option.{Option, none, some}
+use mathlib.Core.Option.{Option as Maybe, none, some}
 use lib.ListN.{length, drop}
 use lib.Seq.{paste, slice}
 use lib.Dec.{ltb}
 use borrow.Author.Tests.{lt-ltb, le-ltb}
+use Rattle.std.specs.Prelude.{Option, Some, None}
 use Rattle.wcsp.specs.Resolve.{Pair}
 use Rattle.wcsp.specs.Rebuild.{tail_weight}
 use Rattle.clause.specs.declared.Clause.{Clause}
 use Rattle.clause.specs.Packed.{signs_of, Holds}
-use Rattle.fields.specs.declared.Answer.{Answer}
+use Rattle.fields.specs.Answers.{Answer}
 use Rattle.fields.specs.Answers.{refused, good}
 use Rattle.fields.specs.Padding.{lacking}
 use Rattle.rows.specs.Raw.{row_width, max_weight}
 use Rattle.table.specs.declared.Shape.{Shape}
-use Rattle.table.specs.declared.Checked.{Checked}
-use Rattle.table.specs.declared.Checked.TheVariants.{Table, Invalid}
 use Rattle.table.specs.Meaning.{variables_of, table_sizes, rows_from}
 use Rattle.table.specs.Valid.{valid_table}
 use Rattle.table.specs.Check.{shape_of, check_table}
@@ -31,10 +30,6 @@ use Rattle.assignment.specs.Order.{is_left, table_pair}
 use Rattle.assignment.specs.Chosen.{carried_signs, Carries, Ready}
 use Rattle.assignment.proofs.Tables.{few_sizes, variables_are, rows_within, rows_are}
 use Rattle.assignment.proofs.Planning.{left_none}
-use Rattle.completion.specs.declared.FixedValues.{FixedValues}
-use Rattle.completion.specs.declared.FixedValues.TheVariants.{Fit, Unfit}
-use Rattle.completion.specs.declared.TailSum.{TailSum}
-use Rattle.completion.specs.declared.TailSum.TheVariants.{Summed, TooHigh}
 use Rattle.completion.specs.Calls.{CompleteReturned, not_completed, fixed_fit, completion_cost, complete_on, complete_call}
 use Rattle.completion.specs.Fixed.{Carrying}
 use Rattle.completion.specs.Limited.{limited_sum}
@@ -53,7 +48,7 @@ module _ (t : List ℕ) (k : ℕ) (fixed target : List ℕ) where
   unfolding complete_call
   call_invalid v = rw v
 
-  pub on_left : (o : Option Pair) → is_left o ≡ true → complete_on t k fixed target o ≡ not_completed 13 target
+  pub on_left : (o : Maybe Pair) → is_left o ≡ true → complete_on t k fixed target o ≡ not_completed 13 target
   unfolding complete_on is_left
   on_left none e = absurd (false≢true e)
   on_left (some pr) e = refl
@@ -84,33 +79,28 @@ module _ (t : List ℕ) (k : ℕ) (fixed target : List ℕ) where
 
 -- ---- the returns
 
--- a refusal that the definition gives, too
-refusing : (t : List ℕ) (k : ℕ) (fixed target : List ℕ) (number : ℕ) (r : Answer) → r ≡ refused number
-    → complete_call t k fixed target ≡ not_completed number target → CompleteLeft t k fixed target r target
-refusing t k fixed target number r e c = ap (λ a. record { answer = a; target = target }) e ∙ sym c
+module _ (t : List ℕ) (k : ℕ) (fixed target : List ℕ) (checked : Option Shape) (answer : checked ≡ check_table t) where
+  pub not_a_table : checked ≡ None → CompleteLeft t k fixed target (refused 9) target
+  not_a_table e = sym (call_invalid t k fixed target (table_invalid t checked answer e))
 
-module _ (t : List ℕ) (k : ℕ) (fixed target : List ℕ) (checked : Checked) (answer : checked ≡ check_table t) where
-  pub not_a_table : checked ≡ Invalid → (r : Answer) → r ≡ refused 9 → CompleteLeft t k fixed target r target
-  not_a_table e r f = refusing t k fixed target 9 r f (call_invalid t k fixed target (table_invalid t checked answer e))
-
-  module _ (shape : Shape) (is : checked ≡ Table shape) where
+  module _ (shape : Shape) (is : checked ≡ Some shape) where
     pub told : (valid_table t ≡ true) × (shape ≡ shape_of t)
     told = table_valid t checked answer shape is
 
     pub variables : shape.variables ≡ variables_of t
     variables = variables_are t told.0 shape told.1
 
-    pub too_short : length target < shape.variables → (r : Answer) → r ≡ refused 10 → CompleteLeft t k fixed target r target
-    too_short h r f = refusing t k fixed target 10 r f (call_short t k fixed target told.0 (omega (arith, variables)))
+    pub too_short : length target < shape.variables → CompleteLeft t k fixed target (refused 10) target
+    too_short h = sym (call_short t k fixed target told.0 (omega (arith, variables)))
 
-    module _ (room : shape.variables ≤ length target) (read : FixedValues) (carrying : Carrying (table_sizes t) k fixed read) where
+    module _ (room : shape.variables ≤ length target) (read : Option Clause) (carrying : Carrying (table_sizes t) k fixed read) where
       in_target : variables_of t ≤ length target
       in_target = omega (arith, variables)
 
-      pub not_fitting : read ≡ Unfit → (r : Answer) → r ≡ refused 14 → CompleteLeft t k fixed target r target
-      not_fitting e r f = refusing t k fixed target 14 r f (call_unfit t k fixed target told.0 in_target (carrying.unfitting e))
+      pub not_fitting : read ≡ None → CompleteLeft t k fixed target (refused 14) target
+      not_fitting e = sym (call_unfit t k fixed target told.0 in_target (carrying.unfitting e))
 
-      module _ (values : Clause) (fitting : read ≡ Fit values) where
+      module _ (values : Clause) (fitting : read ≡ Some values) where
         fits : fixed_fit (table_sizes t) k fixed ≡ true
         fits = (carrying.fitting values fitting).0
 
@@ -130,12 +120,12 @@ module _ (t : List ℕ) (k : ℕ) (fixed target : List ℕ) (checked : Checked) 
         place_room = omega (arith, long, in_target)
 
         module _ (left : Bool) (asked : left ≡ is_left (table_pair t)) where
-          pub pair_left : left ≡ true → (r : Answer) → r ≡ refused 13 → CompleteLeft t k fixed target r target
-          pair_left e r f =
-              refusing t k fixed target 13 r f
+          pub pair_left : left ≡ true → CompleteLeft t k fixed target (refused 13) target
+          pair_left e =
+              sym
               (call_on t k fixed target told.0 in_target fits ∙ on_left t k fixed target (table_pair t) (sym asked ∙ e))
 
-          module _ (e : left ≡ false) (sum : TailSum)
+          module _ (e : left ≡ false) (sum : Option ℕ)
               (summed : (q : List ℕ) → Carries (signs_of values) k q → sum ≡ limited_sum (tail_weight k q (rows_from shape.count (drop (shape.variables + 2) t)))) where
             none_left : table_pair t ≡ none
             none_left = left_none (table_pair t) (sym e ∙ asked)
@@ -150,12 +140,12 @@ module _ (t : List ℕ) (k : ℕ) (fixed target : List ℕ) (checked : Checked) 
                 ∙ ap (λ rs. limited_sum (tail_weight k fixed rs)) (rows_are t told.0 shape told.1)
                 ∙ ap limited_sum ((own_widens t told.0).tail k fixed (one_each (table_sizes t) k fixed fits))
 
-            pub too_dear : sum ≡ TooHigh → (r : Answer) → r ≡ refused 11 → CompleteLeft t k fixed target r target
-            too_dear h r f =
-                refusing t k fixed target 11 r f
+            pub too_dear : sum ≡ None → CompleteLeft t k fixed target (refused 11) target
+            too_dear h =
+                sym
                 (on_none ∙ on_high t k fixed target (told_high (completion_cost t k fixed) (sym h ∙ sum_is)))
 
-            module _ (cost : ℕ) (h : sum ≡ Summed cost) (put : List ℕ) (placed : put ≡ paste target k fixed (length fixed)) where
+            module _ (cost : ℕ) (h : sum ≡ Some cost) (put : List ℕ) (placed : put ≡ paste target k fixed (length fixed)) where
               given : slice k (variables_of t) put ≡ fixed
               given = ap (slice k (variables_of t)) placed ∙ put_values target (variables_of t) k fixed long in_target
 
@@ -172,11 +162,11 @@ module _ (t : List ℕ) (k : ℕ) (fixed target : List ℕ) (checked : Checked) 
                   }
 
               pub completed : (after : List ℕ) → after ≡ table_completion t k (slice k (variables_of t) put) ++ drop (variables_of t) put
-                  → (r : Answer) → r ≡ good cost → CompleteLeft t k fixed target r after
-              completed after q r f =
+                  → CompleteLeft t k fixed target (good cost) after
+              completed after q =
                   let (low, m) = told_total (completion_cost t k fixed) cost (sym h ∙ sum_is) in
                   let rest : drop (variables_of t) put ≡ drop (variables_of t) target
                   = ap (drop (variables_of t)) placed ∙ put_rest target (variables_of t) k fixed long in_target in
                   let p : after ≡ table_completion t k fixed ++ drop (variables_of t) target
                   = q ∙ ap₂ (λ l d. table_completion t k l ++ d) given rest in
-                  ap₂ (λ a l. record { answer = a; target = l }) (f ∙ ap good m) p ∙ sym (on_none ∙ on_good t k fixed target low)
+                  ap₂ (λ a l. record { answer = a; target = l }) (ap good m) p ∙ sym (on_none ∙ on_good t k fixed target low)

@@ -15,8 +15,8 @@ use Rattle.clause.specs.Packed.{Holds}
 use Rattle.fields.specs.Assignment.{is_assignment}
 use Rattle.fields.proofs.Assigning.{in_range_of, assignment_of}
 use Rattle.assignment.specs.Chosen.{carried_signs}
-use Rattle.completion.specs.declared.FixedValues.{FixedValues}
-use Rattle.completion.specs.declared.FixedValues.TheVariants.{Fit, Unfit}
+use Rattle.std.specs.Prelude as std
+use Rattle.std.specs.Prelude.{Some, None}
 use Rattle.completion.specs.Calls.{fixed_fit}
 use Rattle.completion.specs.Fixed.{Carrying}
 
@@ -58,18 +58,18 @@ module _ (ds : List ℕ) (k : ℕ) (fixed : List ℕ) where
 
   -- ---- the answer
 
-  pub unfit : fixed_fit ds k fixed ≡ false → Carrying ds k fixed Unfit
+  pub unfit : fixed_fit ds k fixed ≡ false → Carrying ds k fixed None
   unfit e = record {
     fitting = λ values f. absurd (let z : ◌≡◌ {A = ℕ} 0 1 = cc in omega arith);
     unfitting = λ f. e;
   }
 
-  pub carried : (chosen : Clause) → fixed_fit ds k fixed ≡ true → Holds chosen (carried_signs ds k fixed) → Carrying ds k fixed (Fit chosen)
+  pub carried : (chosen : Clause) → fixed_fit ds k fixed ≡ true → Holds chosen (carried_signs ds k fixed) → Carrying ds k fixed (Some chosen)
   carried chosen e h = record {
     fitting = λ values f. (e, rw (← ap clause f) h);
     unfitting = λ f. absurd (let z : ◌≡◌ {A = ℕ} 0 1 = cc in omega arith);
   }
     where
-      clause : FixedValues → Clause
-      clause (Fit x) = x
-      clause Unfit = chosen
+      clause : std.Option Clause → Clause
+      clause (Some x) = x
+      clause None = chosen

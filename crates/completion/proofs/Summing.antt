@@ -22,15 +22,15 @@ use Rattle.table.proofs.RawRows.{length-rows_from, weight_at_lem}
 use Rattle.hunt.proofs.TableRows.{rows_in, in_rows, signs_read}
 use Rattle.assignment.specs.Chosen.{disjoint, Carries}
 use Rattle.assignment.proofs.Disjoint.{disjoint-falsifies}
-use Rattle.completion.specs.declared.TailSum.{TailSum}
-use Rattle.completion.specs.declared.TailSum.TheVariants.{Summed, TooHigh}
+use Rattle.std.specs.Prelude as std
+use Rattle.std.specs.Prelude.{Some, None}
 use Rattle.completion.specs.Limited.{limited_sum}
 
-pub sum_low : (m : ℕ) → m ≤ max_weight → limited_sum m ≡ Summed m
+pub sum_low : (m : ℕ) → m ≤ max_weight → limited_sum m ≡ Some m
 unfolding limited_sum
 sum_low m h = rw (le-ltb max_weight m h)
 
-pub sum_high : (m : ℕ) → max_weight < m → limited_sum m ≡ TooHigh
+pub sum_high : (m : ℕ) → max_weight < m → limited_sum m ≡ None
 unfolding limited_sum
 sum_high m h = rw (lt-ltb max_weight m h)
 
@@ -90,7 +90,7 @@ module _ (t : List ℕ) (base count k : ℕ) (values : Clause) where
             = tail_yes k q row rest (ap (falsifies_from k q) read ∙ answered q c ∙ f) in
             omega (arith, s.whole q c, ap (tail_weight k q) here, one, weight_at_lem t base count i h)
 
-        pub sum_above : max_weight < sum + w → Over (λ q. TooHigh ≡ limited_sum (tail_weight k q (rows_in t base count)))
+        pub sum_above : max_weight < sum + w → Over (λ q. None ≡ limited_sum (tail_weight k q (rows_in t base count)))
         sum_above b q c = sym (sum_high (tail_weight k q (rows_in t base count)) (omega (arith, added q c)))
 
         pub one_more : sum + w ≤ max_weight → Sum (i + 1) (sum + w)
@@ -115,7 +115,7 @@ module _ (t : List ℕ) (base count k : ℕ) (values : Clause) where
   abbrev pub Above : ℕ → ℕ → Type 0
   Above i sum =
       k ≤ bucket (signs_of (clause_in (raw_at t (base + row_width * i)))) → disjoint (signs_of (clause_in (raw_at t (base + row_width * i)))) (signs_of values) ≡ true
-      → max_weight < sum + weight_in (raw_at t (base + row_width * i)) → Over (λ q. TooHigh ≡ limited_sum (tail_weight k q (rows_in t base count)))
+      → max_weight < sum + weight_in (raw_at t (base + row_width * i)) → Over (λ q. None ≡ limited_sum (tail_weight k q (rows_in t base count)))
 
   -- the sum of the rows before i, with that
   pub record Summing (i sum : ℕ) : Type 0 where
@@ -130,30 +130,30 @@ module _ (t : List ℕ) (base count k : ℕ) (values : Clause) where
             (bucket (signs_of (clause_in (raw_at t (base + row_width * i))))) refl b true (sym d) refl (weight_in (raw_at t (base + row_width * i))) refl m;
       }
 
-  pub all_summed : (i sum : ℕ) → Sum i sum → count ≤ i → Over (λ q. Summed sum ≡ limited_sum (tail_weight k q (rows_in t base count)))
+  pub all_summed : (i sum : ℕ) → Sum i sum → count ≤ i → Over (λ q. Some sum ≡ limited_sum (tail_weight k q (rows_in t base count)))
   all_summed i sum s h q c =
       let l : length (rows_in t base count) ≤ i = omega (arith, length-rows_from count (drop base t)) in
       let m : sum ≡ tail_weight k q (rows_in t base count) = omega (arith, s.whole q c, tail_none k q (rows_in t base count) i l) in
-      ap Summed m ∙ sym (sum_low (tail_weight k q (rows_in t base count)) (omega (arith, s.low)))
+      ap Some m ∙ sym (sum_low (tail_weight k q (rows_in t base count)) (omega (arith, s.low)))
 
 -- ---- what the sum says
 
-abbrev total : TailSum → ℕ
-total (Summed m) = m
-total TooHigh = 0
+abbrev total : std.Option ℕ → ℕ
+total (Some m) = m
+total None = 0
 
-pub told_high : (m : ℕ) → TooHigh ≡ limited_sum m → ltb max_weight m ≡ true
+pub told_high : (m : ℕ) → None ≡ limited_sum m → ltb max_weight m ≡ true
 unfolding limited_sum
 told_high m e = go (ltb max_weight m) e
   where
-    go : (b : Bool) → TooHigh ≡ cond b TooHigh (Summed m) → b ≡ true
+    go : (b : Bool) → None ≡ cond b None (Some m) → b ≡ true
     go true f = refl
     go false f = let z : ◌≡◌ {A = ℕ} 0 1 = cc in absurd (omega arith)
 
-pub told_total : (m cost : ℕ) → Summed cost ≡ limited_sum m → (ltb max_weight m ≡ false) × (cost ≡ m)
+pub told_total : (m cost : ℕ) → Some cost ≡ limited_sum m → (ltb max_weight m ≡ false) × (cost ≡ m)
 unfolding limited_sum
 told_total m cost e = go (ltb max_weight m) e
   where
-    go : (b : Bool) → Summed cost ≡ cond b TooHigh (Summed m) → (b ≡ false) × (cost ≡ m)
+    go : (b : Bool) → Some cost ≡ cond b None (Some m) → (b ≡ false) × (cost ≡ m)
     go true f = let z : ◌≡◌ {A = ℕ} 0 1 = cc in absurd (omega arith)
     go false f = (refl, ap total f)

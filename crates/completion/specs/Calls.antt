@@ -3,7 +3,7 @@ use Rattle.std.specs.Prelude.{ℕ, Bool, ◌&&◌, cond, List, ◌++◌, length,
 use Rattle.std.proofs.Math.Option.{Option, none, some}
 use Rattle.wcsp.specs.Resolve.{Pair}
 use Rattle.wcsp.specs.Rebuild.{tail_weight}
-use Rattle.fields.specs.declared.Answer.{Answer}
+use Rattle.fields.specs.Answers.{Answer}
 use Rattle.fields.specs.Answers.{refused, good}
 use Rattle.fields.specs.Assignment.{is_assignment}
 use Rattle.rows.specs.Raw.{max_weight}

@@ -8,94 +8,83 @@ ghost use Rattle.rows.specs.Raw.{row_width};
 ghost use Rattle.table.specs.Meaning.{variables_of, table_sizes, rows_from};
 ghost use Rattle.table.specs.Valid.{valid_table};
 ghost use Rattle.assignment.specs.Chosen.{Carries};
+ghost use Rattle.fields.specs.Answers.{answer_of};
 ghost use Rattle.completion.specs.Calls.{complete_call};
 ghost use Rattle.completion.specs.Fixed.{Carrying};
 ghost use Rattle.completion.specs.Limited.{limited_sum};
 
 use clause::Clause;
-use fields::Answer;
-use table::Checked;
+use fields::refusals::Refusal;
 
-// The fixed values, carried by a clause, if they fit the table's sizes.
-#[derive(Clone, Copy)]
-pub enum FixedValues {
-    Fit(Clause),
-    Unfit,
-}
-
-// The sum of weights, if it is at most the greatest weight of a row.
-#[derive(Clone, Copy)]
-pub enum TailSum {
-    Summed(u64),
-    TooHigh,
-}
-
-// The clause that carries the fixed values, from the last down: exactly one in range for each variable from k on, or they do not fit.
-fn carry(t: &[u32], n: usize, k: usize, fixed: &[u8]) -> FixedValues
+/// The clause that carries the fixed values, if there is exactly one in range for each variable from `k` on.
+fn carry(t: &[u32], n: usize, k: usize, fixed: &[u8]) -> Option<Clause>
     requires { (valid_table t.now ≡ true) × (n ≡ variables_of t.now) }
     ensures { Carrying (table_sizes t.now) k fixed.now result }
 {
     if n < k {
-        return FixedValues::Unfit;
+        return None;
     }
     if fixed.len() != n - k {
-        return FixedValues::Unfit;
+        return None;
     }
     let mut values = Clause::empty();
-    let mut i = n;
-    while k < i {
-        i -= 1;
-        let value = fields::wide(fixed[i - k]);
+    for i in (k..n).rev() {
+        let value = u32::from(fixed[i - k]);
         if words::payload(t[i + 1]) <= value {
-            return FixedValues::Unfit;
+            return None;
         }
-        values = values.replaced(i as u32, 1u32 << value);
+        values = values.replaced(i as u32, 1 << value);
     }
-    FixedValues::Fit(values)
+    Some(values)
 }
 
-// The weight of the rows without variables below k that the carried values falsify. A sum above the greatest weight ends the loop, so it never overflows.
-fn tail_weight(t: &[u32], base: usize, count: usize, k: u32, values: Clause) -> TailSum
+/// The weight of the rows without variables below `k` that the carried values falsify, if it is at most the greatest weight of a row. A sum above
+/// that ends the loop, so it never overflows.
+fn tail_weight(t: &[u32], base: usize, count: usize, k: u32, values: Clause) -> Option<u64>
     requires { (base + row_width * count ≤ length t.now) × (k ≤ 12) }
     ensures { (q : List ℕ) → Carries (signs_of values) k q → result ≡ limited_sum (tail_weight k q (rows_from count (drop base t.now))) }
 {
     let mut sum = 0;
-    let mut i = 0;
-    while i < count {
+    for i in 0..count {
         let x = rows::clause_of(t, base, i);
         if k <= x.lowest() && assignment::apart(x, values) {
             sum += rows::weight_of(t, base, i);
             if rows::MAX_WEIGHT < sum {
-                return TailSum::TooHigh;
+                return None;
             }
         }
-        i += 1;
     }
-    TailSum::Summed(sum)
+    Some(sum)
 }
 
-// Complete: 9, 10, 14, 13, 11; else the cost, and the assignment in the first n bytes, the rest of the target kept.
-pub fn complete(t: &[u32], k: usize, fixed: &[u8], target: &mut [u8]) -> Answer
-    ensures returned { record { answer = result; target = target.new } ≡ complete_call t.now k fixed.now target.old }
+/// Completes an assignment whose values from variable `k` on are fixed, from a table in which no pair is left: writes the best values below `k`
+/// and the fixed ones, one byte for each variable, to the front of the target, and keeps the rest of it. The result is the cost.
+///
+/// # Errors
+///
+/// `BadTable`; `TargetTooShort` for fewer bytes than variables; `BadFixed` unless there is one fixed value in range for each variable from `k` on;
+/// `PairLeft`; `WeightTooHigh` for a cost above the greatest weight of a row. The first of these decides, and the target is kept.
+pub fn complete(t: &[u32], k: usize, fixed: &[u8], target: &mut [u8]) -> Result<u64, Refusal>
+    ensures returned { record { answer = answer_of result; target = target.new } ≡ complete_call t.now k fixed.now target.old }
 {
-    let checked = table::check(t);
-    let Checked::Table(shape) = checked else {
-        return fields::refusal(9);
+    let Some(shape) = table::check(t) else {
+        return Err(Refusal::BadTable);
     };
     let n = shape.variables;
     if target.len() < n {
-        return fields::refusal(10);
+        return Err(Refusal::TargetTooShort);
     }
-    let FixedValues::Fit(values) = carry(t, n, k, fixed) else {
-        return fields::refusal(14);
+    let Some(values) = carry(t, n, k, fixed) else {
+        return Err(Refusal::BadFixed);
     };
     if assignment::pair_left(t, shape) {
-        return fields::refusal(13);
+        return Err(Refusal::PairLeft);
     }
-    let TailSum::Summed(cost) = tail_weight(t, n + 2, shape.count, k as u32, values) else {
-        return fields::refusal(11);
+    let Some(cost) = tail_weight(t, n + 2, shape.count, k as u32, values) else {
+        return Err(Refusal::WeightTooHigh);
     };
+    // Byte by byte: `copy_from_slice` calls the C library's `memmove`, and the archive takes `memset` alone.
     fields::copy_bytes(target, k, fixed, fixed.len());
     assignment::rebuild(t, shape, k, values, target);
-    fields::success(cost)
+    Ok(cost)
 }

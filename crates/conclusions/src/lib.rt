@@ -1,4 +1,4 @@
-// The conclusions of two clauses resolved on a variable, in document 01's order, tautologies left out.
+// The conclusions of two clauses resolved on a variable, in the rule's order, tautologies left out.
 #![tactic(auto)]
 
 ghost use Rattle.std.specs.Prelude.{◌≡◌, List, [], ◌∷◌, ◌++◌, ℕ, ◌+◌, ◌<◌, ◌≤◌, get_or};
@@ -9,7 +9,7 @@ ghost use Rattle.conclusions.specs.Buffer.{clauses_in, PackedBuffer, Below};
 
 use clause::Clause;
 
-// Clause m of the buffer.
+/// Clause m of the buffer.
 pub fn clause_at(buffer: &[u32; 104], m: usize) -> Clause
     requires { (m < 26) × PackedBuffer buffer.now }
     ensures { Holds result (get_or (clauses_in 26 buffer.now) m []) }
@@ -23,7 +23,7 @@ pub fn clause_at(buffer: &[u32; 104], m: usize) -> Clause
     }
 }
 
-// A conclusion behind the k that the buffer has, unless it is a tautology.
+/// A conclusion behind the k that the buffer has, unless it is a tautology.
 fn keep(buffer: &mut [u32; 104], k: usize, x: Clause, fulls: Clause) -> usize
     requires { (k < 26) × FitsBlocks x × FitsBlocks fulls × PackedBuffer buffer.old }
     ensures { ((ds : List ℕ) → FullSigns fulls ds → clauses_in result buffer.new ≡ clauses_in k buffer.old ++ kept ds (signs_of x ∷ [])) × (result ≤ k + 1) × PackedBuffer buffer.new }
@@ -39,15 +39,14 @@ fn keep(buffer: &mut [u32; 104], k: usize, x: Clause, fulls: Clause) -> usize
     k + 1
 }
 
-// For each literal of y but that of v: x, the literals of y before it, and it complemented.
+/// For each literal of y but that of v: x, the literals of y before it, and it complemented.
 fn exclude(buffer: &mut [u32; 104], k: usize, x: Clause, y: Clause, v: u32, fulls: Clause) -> usize
     requires { (k ≤ 14) × FitsBlocks x × FitsBlocks y × FitsBlocks fulls × Below y fulls × (v < 12) × PackedBuffer buffer.old }
     ensures { ((ds : List ℕ) → FullSigns fulls ds → ValidClause ds (signs_of x) → ValidClause ds (signs_of y) → clauses_in result buffer.new ≡ clauses_in k buffer.old ++ kept ds (excluding ds (signs_of x) (others v (signs_of y)))) × (result ≤ k + 12) × PackedBuffer buffer.new }
 {
     let mut running = x;
     let mut count = k;
-    let mut b = 0;
-    while b < 12 {
+    for b in 0..12 {
         let sign = y.sign(b);
         if sign != 0 && b != v {
             let literal = Clause::empty().replaced(b, sign);
@@ -59,12 +58,12 @@ fn exclude(buffer: &mut [u32; 104], k: usize, x: Clause, y: Clause, v: u32, full
             );
             running = running.union(literal);
         }
-        b += 1;
     }
     count
 }
 
-// Groups 1 to 4. The answer is how many are kept.
+/// Puts the conclusions of two clauses resolved on v into the buffer: the clause met at v, the clause joined, and the two groups of those that
+/// exclude one literal each. The answer is how many are no tautologies, at most 26.
 pub fn conclude(buffer: &mut [u32; 104], x: Clause, y: Clause, v: u32, fulls: Clause) -> usize
     requires { FitsBlocks x × FitsBlocks y × FitsBlocks fulls × Below x fulls × Below y fulls × (v < 12) × PackedBuffer buffer.old }
     ensures { ((ds : List ℕ) → FullSigns fulls ds → ValidClause ds (signs_of x) → ValidClause ds (signs_of y) → clauses_in result buffer.new ≡ kept ds (conclusions ds v (signs_of x) (signs_of y))) × (result ≤ 26) × PackedBuffer buffer.new }

@@ -1,15 +1,32 @@
 -- The full signs of twelve variables, filled in one after the other.
-use Prim.Native.Nat.{ℕ, suc, ◌+◌, ◌-◌, ◌<◌, ◌≤◌}
+use Prim.Native.Nat.{ℕ, zero, suc, ◌+◌, ◌-◌, ◌<◌, ◌≤◌}
 use native.Mathlib.Omega.{arith}
 use native.Mathlib.Numerals.{add-one}
-use mathlib.Core.Path.{◌≡◌, sym, ap, ap₂, ◌∙◌}
+use mathlib.Core.Path.{◌≡◌, refl, sym, ap, ap₂, ◌∙◌}
 use mathlib.Core.List.{List, [], ◌∷◌, ◌++◌, map, append_assoc, append-nil}
 use lib.ListN.{length, get_or, set, take, replicate, length-map}
 use lib.Seq.{take-suc, take_all, length-take-le, set_at}
 use Rattle.wcsp.specs.Sign.{full}
+use Rattle.fields.specs.Padding.{padded}
 use Rattle.clause.specs.declared.Clause.{Clause}
 use Rattle.clause.specs.Packed.{signs_of, FitsBlocks, Holds}
 use Rattle.wcsp.proofs.Signs.{full_at}
+
+-- ---- the sizes of twelve variables
+
+ones_at : (k i : ℕ) → i < k → get_or {A = ℕ} (replicate k 1) i 0 ≡ 1
+ones_at zero i h = absurd (omega arith)
+ones_at (suc k) zero h = refl
+ones_at (suc k) (suc i) h = ones_at k i (omega arith)
+
+joined_at : (ds : List ℕ) (k i : ℕ) → i < length ds + k → get_or (ds ++ replicate k 1) i 0 ≡ get_or ds i 1
+joined_at [] k i h = ones_at k i (omega arith)
+joined_at (d ∷ ds) k zero h = refl
+joined_at (d ∷ ds) k (suc i) h = joined_at ds k i (omega arith)
+
+pub padded_at : (ds : List ℕ) (i : ℕ) → length ds ≤ 12 → i < 12 → get_or (padded ds) i 0 ≡ get_or ds i 1
+unfolding padded
+padded_at ds i few h = joined_at ds (12 - length ds) i (omega arith)
 
 -- the first i signs are full, the others 0
 pub record Filled (sizes : List ℕ) (fulls : Clause) (i : ℕ) : Type 0 where

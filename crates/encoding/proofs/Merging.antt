@@ -7,6 +7,7 @@ use mathlib.Core.Bool.{Bool, true, false, ◌||◌, cond}
 use mathlib.Core.List.{List, [], ◌∷◌, ◌++◌, map}
 use lib.ListN.{length, get_or}
 use lib.Dec.{eqb}
+use Rattle.std.specs.Prelude.{Option, Some, None}
 use Rattle.wcsp.specs.Clause.{same}
 use Rattle.wcsp.specs.Row.{Row, merge, Absent, nil_absent, cons_absent}
 use Rattle.wcsp.specs.Resolve.{no_row}
@@ -14,8 +15,6 @@ use Rattle.wcsp.proofs.Lists.{same-eq, same_sym}
 use Rattle.wcsp.proofs.Adding.{row_of}
 use Rattle.clause.specs.declared.Clause.{Clause}
 use Rattle.clause.specs.Packed.{signs_of, FitsBlocks}
-use Rattle.rows.specs.declared.Found.{Found}
-use Rattle.rows.specs.declared.Found.TheVariants.{At, Missing}
 use Rattle.rows.specs.Raw.{max_weight, no_raw, weight_in, raw_row, find_from, reweighed}
 use Rattle.rows.proofs.RowWords.{weight_raw_row}
 use Rattle.storing.specs.Adding.{added_at, added}
@@ -135,10 +134,10 @@ pub added-grown : (rs : List Row) (x : Clause) (u : ℕ) → AllCarried rs → F
 unfolding added added_at grown
 added-grown rs x u h p = go (eqb u 0) (find_from (raw_row x 0) 0 (map raw_of rs)) refl
   where
-    go : (b : Bool) (f : Found) → find_from (raw_row x 0) 0 (map raw_of rs) ≡ f
+    go : (b : Bool) (f : Option ℕ) → find_from (raw_row x 0) 0 (map raw_of rs) ≡ f
         → cond b (map raw_of rs) (added_at f (map raw_of rs) x u) ≡ map raw_of (cond b rs (merge u rs (signs_of x)))
     go true f e = refl
-    go false (At k) e = sym (merge_first u (signs_of x) k h (found_at x h k e))
-    go false Missing e =
+    go false (Some k) e = sym (merge_first u (signs_of x) k h (found_at x h k e))
+    go false None e =
         let q : raw_of (row_of (signs_of x) u) ≡ raw_row x u = ap (λ y. raw_row y u) (clause_from_signs x) in
         sym (merge_missing u (found_missing x h e) ∙ ap (λ r. map raw_of rs ++ (r ∷ [])) q)

@@ -2,7 +2,7 @@
 use Rattle.std.specs.Prelude.{ℕ, cond, List, length, eqb, ltb}
 use Rattle.wcsp.specs.Row.{Row}
 use Rattle.wcsp.specs.Entry.{encoded}
-use Rattle.fields.specs.declared.Answer.{Answer}
+use Rattle.fields.specs.Answers.{Answer}
 use Rattle.fields.specs.Answers.{refused, good}
 use Rattle.input.specs.Instance.{instance_fault, sizes_of, entries_of}
 use Rattle.table.specs.Layout.{rows_at, capacity, table_words}

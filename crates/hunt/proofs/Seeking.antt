@@ -15,7 +15,7 @@ use Rattle.wcsp.proofs.NextPair.{other_second}
 use Rattle.clause.specs.declared.Clause.{Clause}
 use Rattle.clause.specs.Packed.{signs_of, FullSigns}
 use Rattle.rows.specs.Raw.{row_width, raw_at, clause_in}
-use Rattle.rows.specs.declared.Found.TheVariants.{At, Missing}
+use Rattle.std.specs.Prelude.{Some, None}
 use Rattle.table.proofs.RawRows.{length-rows_from}
 use Rattle.hunt.specs.Hunt.{found_of}
 use Rattle.hunt.proofs.TableRows.{rows_in, in_rows, signs_read, valid_read}
@@ -65,7 +65,7 @@ module _ (t : List ℕ) (base count : ℕ) (x : Clause) (v : ℕ) (fulls : Claus
           pub clash_passed : not c ≡ false → Sought from (j + 1)
           clash_passed o = passed (λ ds f r g k. clashing_signs ds v (signs_of x) (signs_of at_j) (clashes ds f r g k ∙ not-false c o))
 
-          pub found : not b ≡ true → low ≡ v → not c ≡ true → Over (λ ds. At j ≡ found_of (partner ds v (signs_of x) from (drop from (rows_in t base count))))
+          pub found : not b ≡ true → low ≡ v → not c ≡ true → Over (λ ds. Some j ≡ found_of (partner ds v (signs_of x) from (drop from (rows_in t base count))))
           unfolding found_of
           found o u w ds f r g k =
               sym (ap found_of (sought ds f r g k
@@ -73,7 +73,7 @@ module _ (t : List ℕ) (base count : ℕ) (x : Clause) (v : ℕ) (fulls : Claus
               (rw (signs_read t base count j h at_j refl)
               (goes ds v (signs_of x) (signs_of at_j) k (sym row_bucket ∙ u) (nests ∙ not-true b o) (clashes ds f r g k ∙ not-true c w)))))
 
-  pub missing : (from j : ℕ) → Sought from j → count ≤ j → Over (λ ds. Missing ≡ found_of (partner ds v (signs_of x) from (drop from (rows_in t base count))))
+  pub missing : (from j : ℕ) → Sought from j → count ≤ j → Over (λ ds. None ≡ found_of (partner ds v (signs_of x) from (drop from (rows_in t base count))))
   unfolding found_of
   missing from j s h ds f r g k =
       let l : length (rows_in t base count) ≤ j = omega (arith, length-rows_from count (drop base t)) in

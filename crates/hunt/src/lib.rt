@@ -11,16 +11,19 @@ ghost use Rattle.table.specs.Meaning.{rows_from};
 ghost use Rattle.hunt.specs.Hunt.{found_of, hunted_of, Cleared};
 
 use clause::Clause;
-use rows::Found;
 
-// What a hunt finds from a bucket on: how many buckets it passed over and two rows of the next one, or nothing.
-#[derive(Clone, Copy)]
-pub enum Hunted {
-    Next(u32, usize, usize),
-    Nothing,
+/// The pair that a hunt finds.
+#[derive(Clone, Copy, Debug, PartialEq, Eq)]
+pub struct Next {
+    /// How many buckets the hunt passed over.
+    pub passed: u32,
+    /// The pair's first row.
+    pub first: usize,
+    /// Its second row, behind the first.
+    pub second: usize,
 }
 
-// The sign of row k at variable v, from one word of the row.
+/// The sign of row k at variable v, from one word of the row.
 fn sign_at(t: &[u32], base: usize, k: usize, v: u32) -> u32
     requires { (base + row_width * k + row_width ≤ length t.now) × (v < 12) }
     ensures { result ≡ get_or (signs_of (clause_in (raw_at t.now (base + row_width * k)))) v 0 }
@@ -29,7 +32,7 @@ fn sign_at(t: &[u32], base: usize, k: usize, v: u32) -> u32
     (t[at] >> (8 * (v % 3))) % 256
 }
 
-// The first row from `from` on, of bucket v, that may be resolved on v with x, whose sign there is given. The signs at v tell most rows apart.
+/// The first row from `from` on, of bucket v, that may be resolved on v with x, whose sign there is given. The signs at v tell most rows apart.
 fn seek(
     t: &[u32],
     base: usize,
@@ -39,26 +42,22 @@ fn seek(
     sign: u32,
     from: usize,
     fulls: Clause,
-) -> Found
+) -> Option<usize>
     requires { (base + row_width * count ≤ length t.now) × FitsBlocks x × FitsBlocks fulls × (v < 12) × (sign ≡ get_or (signs_of x) v 0) }
     ensures { let rs = rows_from count (drop base t.now) in (ds : List ℕ) → FullSigns fulls ds → ValidRows ds rs → ValidClause ds (signs_of x) → bucket (signs_of x) ≡ v → result ≡ found_of (partner ds v (signs_of x) from (drop from rs)) }
 {
-    let mut j = from;
-    while j < count {
+    for j in from..count {
         if !clause::nest(sign, sign_at(t, base, j, v)) {
             let y = rows::clause_of(t, base, j);
-            if y.lowest() == v {
-                if !x.clashes(y, v, fulls) {
-                    return Found::At(j);
-                }
+            if y.lowest() == v && !x.clashes(y, v, fulls) {
+                return Some(j);
             }
         }
-        j += 1;
     }
-    Found::Missing
+    None
 }
 
-// The least pair of bucket v. No row below `skip` goes with any, and row `skip` with none below `from`.
+/// The least pair of bucket v. No row below `skip` goes with any, and row `skip` with none below `from`.
 fn pair_in(
     t: &[u32],
     base: usize,
@@ -67,34 +66,33 @@ fn pair_in(
     skip: usize,
     from: usize,
     fulls: Clause,
-) -> Hunted
+) -> Option<Next>
     requires { (base + row_width * count ≤ length t.now) × FitsBlocks fulls × (v < 12) }
     ensures { let rs = rows_from count (drop base t.now) in (ds : List ℕ) → FullSigns fulls ds → ValidRows ds rs → Cleared ds v skip from rs → result ≡ hunted_of v (pair_in ds v 0 rs) }
 {
-    let mut i = skip;
     let mut least = from;
-    while i < count {
+    for i in skip..count {
         let sign = sign_at(t, base, i, v);
         if sign != 0 {
             let x = rows::clause_of(t, base, i);
             if x.lowest() == v {
-                let mut next = i + 1;
-                if next < least {
-                    next = least;
-                }
+                let next = least.max(i + 1);
                 let found = seek(t, base, count, x, v, sign, next, fulls);
-                if let Found::At(j) = found {
-                    return Hunted::Next(0, i, j);
+                if let Some(j) = found {
+                    return Some(Next {
+                        passed: 0,
+                        first: i,
+                        second: j,
+                    });
                 }
             }
         }
         least = 0;
-        i += 1;
     }
-    Hunted::Nothing
+    None
 }
 
-// The least pair of the lowest bucket from v on that has one, whatever rows of lower buckets there are. `skip` and `from` are those of `pair_in`, for bucket v alone.
+/// The least pair of the lowest bucket from v on that has one, whatever rows of lower buckets there are. `skip` and `from` are those of `pair_in`, for bucket v alone.
 pub fn hunt(
     t: &[u32],
     base: usize,
@@ -103,22 +101,22 @@ pub fn hunt(
     skip: usize,
     from: usize,
     fulls: Clause,
-) -> Hunted
+) -> Option<Next>
     requires { (base + row_width * count ≤ length t.now) × FitsBlocks fulls × (v ≤ 12) }
     ensures { let rs = rows_from count (drop base t.now) in (ds : List ℕ) → FullSigns fulls ds → ValidRows ds rs → Cleared ds v skip from rs → result ≡ hunted_of v (pair_from ds (length ds - v) v rs) }
 {
-    let mut s = v;
     let mut first = skip;
     let mut second = from;
-    while s < 12 {
+    for s in v..12 {
         let found = pair_in(t, base, count, s, first, second, fulls);
-        if let Hunted::Next(_, i, j) = found {
-            let passed = s - v;
-            return Hunted::Next(passed, i, j);
+        if let Some(pair) = found {
+            return Some(Next {
+                passed: s - v,
+                ..pair
+            });
         }
         first = 0;
         second = 0;
-        s += 1;
     }
-    Hunted::Nothing
+    None
 }

@@ -22,7 +22,7 @@ use Rattle.table.proofs.Finishing.{valid_variables}
 use Rattle.stepping.specs.Step.{Stepping, refusing, steps_to, allowed, pair_word}
 use Rattle.stepping.proofs.Named.{next_named}
 use Rattle.stepping.proofs.Verdicts.{Verdict, refused, made, verdict}
-use Rattle.resolution.specs.declared.Outcome.TheVariants.{Done, Refused}
+use Rattle.resolution.specs.Outcomes.{Done, Refused}
 use Rattle.resolution.specs.Step.{one_step}
 use Rattle.resolution.specs.Run.{Ran, after, at_limit, run_rows}
 use Rattle.resolution.specs.Climbing.{Climbs, RunsClimb}

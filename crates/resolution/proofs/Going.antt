@@ -27,14 +27,16 @@ use Rattle.table.proofs.Canonical.{twelve_is_canonical}
 use Rattle.table.proofs.Finishing.{valid_variables}
 use Rattle.table.proofs.Own.{own_next}
 use Rattle.table.proofs.Reading.{ready, find_room}
-use Rattle.hunt.specs.declared.Hunted.{Hunted}
-use Rattle.hunt.specs.declared.Hunted.TheVariants.{Next, Nothing}
+use Rattle.hunt.specs.declared.Next.{Next}
+use Rattle.std.specs.Prelude as rust
 use Rattle.hunt.specs.Hunt.{Cleared}
 use Rattle.stepping.specs.Step.{refusing, steps_to, allowed, pair_word, with_rows}
 use Rattle.stepping.proofs.Answers.{Advances}
 use Rattle.stepping.proofs.Following.{following}
-use Rattle.resolution.specs.declared.Outcome.{Outcome}
-use Rattle.resolution.specs.declared.RunAnswer.{RunAnswer}
+use Rattle.resolution.specs.Outcomes.{Outcome, RunAnswer, outcome_of, run_answer_of}
+use Rattle.fields.specs.declared.refusals.Refusal.{Refusal}
+use Rattle.fields.specs.Numbers.{number_of}
+use Rattle.resolution.specs.declared.Outcome.{Outcome as Told}
 use Rattle.resolution.specs.declared.Ending.{Ending}
 use Rattle.resolution.specs.Step.{one_step}
 use Rattle.resolution.specs.Run.{Ran, after, at_limit, run_rows}
@@ -191,19 +193,19 @@ module _ {t₀ : List ℕ} {most : ℕ} {slice₀ t slice : List ℕ} {count low
   -- what the run must give back
   abbrev pub Gives : Ending → List ℕ → List ℕ → Type 0
   Gives r t' slice' =
-      ◌≡◌ {A = RunReturned} (record { answer = r.answer; table = t'; slice = slice' }) (run_returns 12 t₀ slice₀ whole) × (r.lowest ≡ own_lowest t')
+      ◌≡◌ {A = RunReturned} (record { answer = run_answer_of r.answer; table = t'; slice = slice' }) (run_returns 12 t₀ slice₀ whole) × (r.lowest ≡ own_lowest t')
 
   -- a run that ends so in this table, with this value of its lowest unsettled variable
-  abbrev pub ending : Outcome → ℕ → List ℕ → Ending
+  abbrev pub ending : Told → ℕ → List ℕ → Ending
   ending e u t' = record { answer = record { outcome = e; steps = made; bound = empty_weight 12 (table_rows t') }; lowest = u }
 
-  gives : (e : Outcome) (r : Ending) (t' : List ℕ) → whole ≡ record { outcome = e; rows = table_rows t; made = g.words }
+  gives : (e : Told) (r : Ending) (t' : List ℕ) → whole ≡ record { outcome = outcome_of e; rows = table_rows t; made = g.words }
       → (u : ℕ) → r ≡ ending e u t → t' ≡ t → u ≡ own_lowest t → Gives r t' slice
   gives e r t' w u a b l =
       let s = g.steps in
       let c : t' ≡ with_rows t₀ (table_rows t) = b ∙ going_canonical in
       let d : slice ≡ g.words ++ drop (length g.words) slice₀ = rw s g.sliced in
-      let f : r.answer ≡ record { outcome = e; steps = length g.words; bound = empty_weight 12 (table_rows t) } = rw s (ap (λ x. x.answer) a) in
+      let f : run_answer_of r.answer ≡ record { outcome = outcome_of e; steps = length g.words; bound = empty_weight 12 (table_rows t) } = rw s (ap (λ x. run_answer_of x.answer) a) in
       (rw w (λ i. record { answer = f i; table = c i; slice = d i }), ap (λ x. x.lowest) a ∙ l ∙ ap own_lowest (sym b))
 
   -- what the calls of a turn ask for, with the front and the full signs of the first table
@@ -236,43 +238,43 @@ module _ {t₀ : List ℕ} {most : ℕ} {slice₀ t slice : List ℕ} {count low
         λ i. record { variables = n i; count = k i; fulls = u i }
 
     -- a hunt that starts at the value of the lowest unsettled variable
-    module _ {found : Hunted} {start : ℕ} (answer : Hunts t base count fulls start skip from found) (here : start ≡ lowest) where
+    module _ {found : rust.Option Next} {start : ℕ} (answer : Hunts t base count fulls start skip from found) (here : start ≡ lowest) where
       hunts_here : Hunts t base count fulls lowest skip from found
       hunts_here = rw here at answer
 
-      pub none_left : found ≡ Nothing → next_pair (domains t) (table_rows t) ≡ none
+      pub none_left : found ≡ rust.None → next_pair (domains t) (table_rows t) ≡ none
       none_left = hunt_none t g.valid base count base_here g.counted fulls fulls_here lowest skip from g.low g.cleared found hunts_here
 
       -- the value moves on by what the hunt passed over
-      pub one_next : {passed i j : ℕ} → found ≡ Next passed i j → (v : ℕ) → v ≡ lowest + passed
-          → next_pair (domains t) (table_rows t) ≡ some (record { variable = v; first = i; second = j })
-      one_next {passed} {i} {j} q v e =
-          rw e (hunt_some t g.valid base count base_here g.counted fulls fulls_here lowest skip from g.low g.cleared found hunts_here passed i j q)
+      pub one_next : {n : Next} → found ≡ rust.Some n → (v : ℕ) → v ≡ lowest + n.passed
+          → next_pair (domains t) (table_rows t) ≡ some (record { variable = v; first = n.first; second = n.second })
+      one_next {n} q v e =
+          rw e (hunt_some t g.valid base count base_here g.counted fulls fulls_here lowest skip from g.low g.cleared found hunts_here n q)
 
-  pub gives_done : next_pair (domains t) (table_rows t) ≡ none → (n : ℕ) → n ≡ variables_of t₀ → (r : Ending) → r ≡ ending Outcome.Done n t → Gives r t slice
+  pub gives_done : next_pair (domains t) (table_rows t) ≡ none → (n : ℕ) → n ≡ variables_of t₀ → (r : Ending) → r ≡ ending Told.Done n t → Gives r t slice
   gives_done e n h r a =
-      gives Outcome.Done r t (g.goes ∙ run_done (domains t) (capacity_of t) (most - made) (table_rows t) g.words e) n a refl
+      gives Told.Done r t (g.goes ∙ run_done (domains t) (capacity_of t) (most - made) (table_rows t) g.words e) n a refl
       (omega (arith, h, g.variables, valid_variables t g.valid, lowest-none (table_sizes t) (own_rows t) (sym (own_next t g.valid) ∙ e)))
 
   module _ (pr : Pair) (next : next_pair (domains t) (table_rows t) ≡ some pr) where
-    pub gives_paused : made ≡ most → (r : Ending) → r ≡ ending Outcome.Paused pr.variable t → Gives r t slice
+    pub gives_paused : made ≡ most → (r : Ending) → r ≡ ending Told.Paused pr.variable t → Gives r t slice
     gives_paused h r a =
         let z : most - made ≡ 0 = omega arith in
-        gives Outcome.Paused r t (g.goes ∙ run_paused (domains t) (capacity_of t) (most - made) (table_rows t) g.words pr next z)
+        gives Told.Paused r t (g.goes ∙ run_paused (domains t) (capacity_of t) (most - made) (table_rows t) g.words pr next z)
         pr.variable a refl (on_own t g.valid pr next)
 
     module _ (h : made < most) where
       one_left : most - made ≡ suc (most - (made + 1))
       one_left = omega (arith, h)
 
-      pub gives_refused : (k : ℕ) (t' : List ℕ)
-          → (allowed (capacity_of t) pr (resolve (domains t) pr (table_rows t)) ≡ refusing k) × (t' ≡ t) → (r : Ending) (number : ℕ) → number ≡ k
-          → r ≡ ending (Outcome.Refused number) pr.variable t' → Gives r t' slice
-      gives_refused k t' (a, b) r number q p =
-          gives (Outcome.Refused k) r t'
-          (g.goes ∙ run_stopped (domains t) (capacity_of t) (most - made) (table_rows t) g.words (most - (made + 1)) one_left k
+      pub gives_refused : (refusal : Refusal) (t' : List ℕ)
+          → (allowed (capacity_of t) pr (resolve (domains t) pr (table_rows t)) ≡ refusing (number_of refusal)) × (t' ≡ t) → (r : Ending)
+          → r ≡ ending (Told.Refused refusal) pr.variable t' → Gives r t' slice
+      gives_refused refusal t' (a, b) r p =
+          gives (Told.Refused refusal) r t'
+          (g.goes ∙ run_stopped (domains t) (capacity_of t) (most - made) (table_rows t) g.words (most - (made + 1)) one_left (number_of refusal)
           (next-step (domains t) (capacity_of t) (table_rows t) pr next ∙ ap some a))
-          pr.variable (p ∙ ap₂ (λ m u. ending (Outcome.Refused m) pr.variable u) q b) b (on_own t g.valid pr next)
+          pr.variable (p ∙ ap (λ u. ending (Told.Refused refusal) pr.variable u) b) b (on_own t g.valid pr next)
 
       pub going_on : (now : ℕ) (t' : List ℕ) → Advances t pr now t' → (w : ℕ) → w ≡ pair_word pr
           → (from' : ℕ) → from' ≡ resumed (table_rows t) pr.first pr.second

@@ -14,7 +14,7 @@ use Rattle.table.proofs.Canonical.{twelve_is_canonical}
 use Rattle.stepping.specs.Step.{Stepping, refusing, steps_to, allowed, pair_word, with_rows}
 use Rattle.stepping.proofs.Following.{Following, following}
 use Rattle.resolution.specs.Step.{one_step}
-use Rattle.resolution.specs.declared.Outcome.TheVariants.{Done, Refused}
+use Rattle.resolution.specs.Outcomes.{Done, Refused}
 use Rattle.resolution.specs.Run.{after, at_limit, run_rows}
 use Rattle.resolution.specs.Calls.{step_returns, step_call, run_call}
 use Rattle.resolution.specs.Theorems.{StepsKeepValid, RunsKeepValid}

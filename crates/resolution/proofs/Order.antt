@@ -15,8 +15,8 @@ use Rattle.table.specs.Layout.{too_heavy}
 use Rattle.table.specs.Meaning.{variables_of, table_sizes, own_rows, capacity_of}
 use Rattle.table.specs.Valid.{valid_table}
 use Rattle.stepping.specs.Step.{Stepping, refusing, steps_to, allowed, refusal_of, pair_word}
-use Rattle.resolution.specs.declared.Outcome.{Outcome}
-use Rattle.resolution.specs.declared.StepAnswer.TheVariants.{Refused}
+use Rattle.resolution.specs.Outcomes.{Outcome}
+use Rattle.resolution.specs.Answers.{Refused}
 use Rattle.resolution.specs.Step.{on_pair, one_step}
 use Rattle.resolution.specs.Run.{Ran, after, at_limit, run_rows}
 use Rattle.resolution.specs.Numbers.{step_number, outcome_number, run_number}

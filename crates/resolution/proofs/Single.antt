@@ -4,7 +4,9 @@ use native.Mathlib.Omega.{arith}
 use mathlib.Core.Path.{◌≡◌, refl, sym, ap, ap₂, ◌∙◌}
 use mathlib.Core.Bool.{true, false}
 use mathlib.Core.List.{List}
-use mathlib.Core.Option.{Option, none, some}
+use mathlib.Core.Option as math
+use Rattle.std.specs.Prelude.{Option, Some, None}
+use Rattle.std.proofs.lemmas.Option.{same_Some}
 use lib.ListN.{length, drop}
 use Rattle.wcsp.specs.Row.{ValidRows}
 use Rattle.wcsp.specs.Resolve.{Pair, pair_from, next_pair, resolve, MayResolve}
@@ -21,16 +23,13 @@ use Rattle.table.specs.Valid.{valid_table}
 use Rattle.table.specs.Check.{full_clause, shape_of}
 use Rattle.table.proofs.Canonical.{passed}
 use Rattle.table.proofs.Reading.{ready, ready_shape, find_room}
-use Rattle.hunt.specs.declared.Hunted.{Hunted}
-use Rattle.hunt.specs.declared.Hunted.TheVariants.{Next, Nothing}
+use Rattle.hunt.specs.declared.Next.{Next}
 use Rattle.hunt.proofs.Climbing.{nothing_none}
 use Rattle.hunt.specs.Hunt.{hunted_of, Cleared}
-use Rattle.stepping.specs.declared.Advanced.{Advanced}
-use Rattle.stepping.specs.declared.Advanced.TheVariants.{Made, Refused}
 use Rattle.stepping.specs.Step.{Stepping, refusing, steps_to, pair_word}
-use Rattle.stepping.specs.Advance.{AdvanceReturned, advance_call}
+use Rattle.stepping.specs.Advance.{Advanced, Made, Refused, AdvanceReturned, advance_call}
 use Rattle.stepping.proofs.Answers.{advance_made, advance_refused}
-use Rattle.resolution.specs.declared.StepAnswer.{StepAnswer}
+use Rattle.resolution.specs.Answers.{StepAnswer}
 use Rattle.resolution.specs.Step.{one_step}
 use Rattle.resolution.specs.Calls.{StepReturned, step_returns, step_call}
 use Rattle.resolution.proofs.Stepped.{no_step, next-step}
@@ -39,30 +38,18 @@ use Rattle.resolution.proofs.Own.{step_own}
 -- ---- the hunt
 
 -- the pair of a hunt from s on that found one: as many variables further as it passed over
-next-some : (s : ℕ) (o : Option Pair) (a b c : ℕ) → hunted_of s o ≡ Next a b c → ((pr : Pair) → o ≡ some pr → s ≤ pr.variable)
-    → o ≡ some (record { variable = s + a; first = b; second = c })
+next-some : (s : ℕ) (o : math.Option Pair) (n : Next) → hunted_of s o ≡ Some n → ((pr : Pair) → o ≡ math.some pr → s ≤ pr.variable)
+    → o ≡ math.some (record { variable = s + n.passed; first = n.first; second = n.second })
 unfolding hunted_of
-next-some s none a b c e h = cc
-next-some s (some pr) a b c e h =
-    let p = ap passed_in e in
+next-some s math.none n e h = cc
+next-some s (math.some pr) n e h =
+    let p : record { passed = pr.variable - s; first = pr.first; second = pr.second } ≡ n = same_Some _ _ e in
     let l = h pr refl in
-    let v : pr.variable ≡ s + a = omega (arith, p, l) in
-    ap some (λ i. record { variable = v i; first = first_in (e i); second = second_in (e i) })
-  where
-    passed_in : Hunted → ℕ
-    passed_in (Next x y z) = x
-    passed_in Nothing = 0
-
-    first_in : Hunted → ℕ
-    first_in (Next x y z) = y
-    first_in Nothing = 0
-
-    second_in : Hunted → ℕ
-    second_in (Next x y z) = z
-    second_in Nothing = 0
+    let v : pr.variable ≡ s + n.passed = omega (arith, ap (λ x. x.passed) p, l) in
+    ap math.some (λ i. record { variable = v i; first = (p i).first; second = (p i).second })
 
 -- what a hunt from bucket s on answers of the rows in a table
-abbrev pub Hunts : List ℕ → ℕ → ℕ → Clause → ℕ → ℕ → ℕ → Hunted → Type 0
+abbrev pub Hunts : List ℕ → ℕ → ℕ → Clause → ℕ → ℕ → ℕ → Option Next → Type 0
 Hunts t base count fulls s skip from found =
     (ds : List ℕ) → FullSigns fulls ds → ValidRows ds (rows_from count (drop base t)) → Cleared ds s skip from (rows_from count (drop base t))
     → found ≡ hunted_of s (pair_from ds (length ds - s) s (rows_from count (drop base t)))
@@ -83,7 +70,7 @@ module _ (t : List ℕ) (v : valid_table t ≡ true) (base count : ℕ) (b : bas
   unfolding table_rows_in
   rows_read = ap₂ (λ m k. rows_from m (drop k t)) n b
 
-  module _ (s skip from : ℕ) (low : s ≤ lowest_in t) (cleared : Cleared (domains t) s skip from (table_rows t)) (found : Hunted)
+  module _ (s skip from : ℕ) (low : s ≤ lowest_in t) (cleared : Cleared (domains t) s skip from (table_rows t)) (found : Option Next)
       (answer : Hunts t base count fulls s skip from found) where
     hunted : found ≡ hunted_of s (next_pair (domains t) (table_rows t))
     hunted =
@@ -92,11 +79,11 @@ module _ (t : List ℕ) (v : valid_table t ≡ true) (base count : ℕ) (b : bas
         let a = rw rows_read at (answer (domains t) signs) in
         a r.valid cleared ∙ ap (hunted_of s) (hunt_from (domains t) (table_rows t) (table_rows t) s low refl)
 
-    pub hunt_none : found ≡ Nothing → next_pair (domains t) (table_rows t) ≡ none
+    pub hunt_none : found ≡ None → next_pair (domains t) (table_rows t) ≡ math.none
     hunt_none q = nothing_none s (next_pair (domains t) (table_rows t)) (sym hunted ∙ q)
 
-    pub hunt_some : (a i j : ℕ) → found ≡ Next a i j → next_pair (domains t) (table_rows t) ≡ some (record { variable = s + a; first = i; second = j })
-    hunt_some a i j q = next-some s (next_pair (domains t) (table_rows t)) a i j (sym hunted ∙ q)
+    pub hunt_some : (n : Next) → found ≡ Some n → next_pair (domains t) (table_rows t) ≡ math.some (record { variable = s + n.passed; first = n.first; second = n.second })
+    hunt_some n q = next-some s (next_pair (domains t) (table_rows t)) n (sym hunted ∙ q)
         (λ pr e. omega (arith, low, on_it (domains t) (table_rows t) pr e))
 
 -- before the first step no row is passed
@@ -124,17 +111,17 @@ module _ (t : List ℕ) (v : valid_table t ≡ true) (shape : Shape) (e : shape 
     omega arith,
   )
 
-  module _ {found : Hunted} (answer : Hunts t (shape.variables + 2) shape.count shape.fulls 0 0 0 found) where
-    pub first_none : found ≡ Nothing → next_pair (domains t) (table_rows t) ≡ none
+  module _ {found : Option Next} (answer : Hunts t (shape.variables + 2) shape.count shape.fulls 0 0 0 found) where
+    pub first_none : found ≡ None → next_pair (domains t) (table_rows t) ≡ math.none
     first_none =
         hunt_none t v (shape.variables + 2) shape.count shape_front shape_count shape.fulls shape_fulls 0 0 0
         (omega arith) (cleared_start t 0) found answer
 
-    pub first_some : (a i j : ℕ) → found ≡ Next a i j → next_pair (domains t) (table_rows t) ≡ some (record { variable = a; first = i; second = j })
-    first_some a i j q =
-        let z : 0 + a ≡ a = omega arith in
+    pub first_some : (n : Next) → found ≡ Some n → next_pair (domains t) (table_rows t) ≡ math.some (record { variable = n.passed; first = n.first; second = n.second })
+    first_some n q =
+        let z : 0 + n.passed ≡ n.passed = omega arith in
         rw z at (hunt_some t v (shape.variables + 2) shape.count shape_front shape_count shape.fulls shape_fulls 0 0 0
-        (omega arith) (cleared_start t 0) found answer a i j q)
+        (omega arith) (cleared_start t 0) found answer n q)
 
 -- ---- the step on a pair
 
@@ -145,7 +132,7 @@ pub record Numbers (rows v i j : ℕ) : Type 0 where
   pub second : j < rows
   pub most : rows ≤ 4096
 
-module _ (t : List ℕ) (v : valid_table t ≡ true) (pr : Pair) (next : next_pair (domains t) (table_rows t) ≡ some pr) where
+module _ (t : List ℕ) (v : valid_table t ≡ true) (pr : Pair) (next : next_pair (domains t) (table_rows t) ≡ math.some pr) where
   pub permitted : MayResolve (domains t) (table_rows t) pr
   permitted = next-permitted (domains t) (table_rows t) pr next
 
@@ -171,26 +158,26 @@ unfolding step_call
 called_invalid t e = rw e
 
 module _ (t : List ℕ) (v : valid_table t ≡ true) where
-  called : (s : Option Stepping) → one_step (domains t) (capacity_of t) (table_rows t) ≡ s → step_call t ≡ step_returns t s
+  called : (s : math.Option Stepping) → one_step (domains t) (capacity_of t) (table_rows t) ≡ s → step_call t ≡ step_returns t s
   unfolding step_call
   called s e = rw v (sym (step_own t v) ∙ ap (step_returns t) e)
 
-  pub called_done : next_pair (domains t) (table_rows t) ≡ none → Called t StepAnswer.Done t
+  pub called_done : next_pair (domains t) (table_rows t) ≡ math.none → Called t StepAnswer.Done t
   unfolding step_returns
-  called_done e = sym (called none (no_step (domains t) (capacity_of t) (table_rows t) e))
+  called_done e = sym (called math.none (no_step (domains t) (capacity_of t) (table_rows t) e))
 
-  module _ (pr : Pair) (next : next_pair (domains t) (table_rows t) ≡ some pr) (answer : Advanced) (t' : List ℕ)
+  module _ (pr : Pair) (next : next_pair (domains t) (table_rows t) ≡ math.some pr) (answer : Advanced) (t' : List ℕ)
       (e : ◌≡◌ {A = AdvanceReturned} (record { answer = answer; table = t' }) (advance_call t pr)) where
     pub called_refused : (k : ℕ) → answer ≡ Refused k → Called t (StepAnswer.Refused k) t'
     unfolding step_returns
     called_refused k q =
         let (a, b) = advance_refused t pr answer t' e k q in
-        let c = called (some (refusing k)) (next-step (domains t) (capacity_of t) (table_rows t) pr next ∙ ap some a) in
+        let c = called (math.some (refusing k)) (next-step (domains t) (capacity_of t) (table_rows t) pr next ∙ ap math.some a) in
         ap (λ u. record { answer = StepAnswer.Refused k; table = u }) b ∙ sym c
 
     pub called_made : (now w : ℕ) → answer ≡ Made now → w ≡ pair_word pr → Called t (StepAnswer.Stepped w) t'
     unfolding step_returns
     called_made now w q p =
         let a = advance_made t pr answer t' e now q in
-        let c = called (some (steps_to pr (resolve (domains t) pr (table_rows t)))) (next-step (domains t) (capacity_of t) (table_rows t) pr next ∙ ap some a.is) in
+        let c = called (math.some (steps_to pr (resolve (domains t) pr (table_rows t)))) (next-step (domains t) (capacity_of t) (table_rows t) pr next ∙ ap math.some a.is) in
         ap₂ (λ x u. record { answer = StepAnswer.Stepped x; table = u }) p a.table ∙ sym c

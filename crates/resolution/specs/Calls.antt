@@ -4,10 +4,8 @@ use Rattle.std.proofs.Math.Option.{Option, none, some}
 use Rattle.wcsp.specs.Row.{empty_weight}
 use Rattle.table.specs.Meaning.{variables_of, table_sizes, own_rows, capacity_of}
 use Rattle.table.specs.Valid.{valid_table}
-use Rattle.resolution.specs.declared.StepAnswer.{StepAnswer}
-use Rattle.resolution.specs.declared.StepAnswer.TheVariants.{Refused, Done, Stepped}
-use Rattle.resolution.specs.declared.Outcome.{Outcome}
-use Rattle.resolution.specs.declared.RunAnswer.{RunAnswer}
+use Rattle.resolution.specs.Answers.{StepAnswer, Refused, Done, Stepped}
+use Rattle.resolution.specs.Outcomes.{Outcome, RunAnswer}
 use Rattle.stepping.specs.Step.{Stepping, refusing, steps_to, pair_word, with_rows}
 use Rattle.resolution.specs.Step.{one_step}
 use Rattle.resolution.specs.Run.{Ran, run_rows}

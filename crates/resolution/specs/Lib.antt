@@ -1,4 +1,6 @@
 -- The step call and the run, on a table in lent words: definitions, the paper's numbers of their answers, and what they keep.
+pub mod Answers
+pub mod Outcomes
 pub mod Step
 pub mod Run
 pub mod Calls

@@ -1,9 +1,7 @@
 -- The paper's number and the further fields of a step's and of a run's answer.
 use Rattle.std.specs.Prelude.{ℕ, cond, List, [], ◌∷◌, eqb}
-use Rattle.resolution.specs.declared.StepAnswer.{StepAnswer}
-use Rattle.resolution.specs.declared.StepAnswer.TheVariants.{Refused, Done, Stepped}
-use Rattle.resolution.specs.declared.Outcome.{Outcome}
-use Rattle.resolution.specs.declared.RunAnswer.{RunAnswer}
+use Rattle.resolution.specs.Answers.{StepAnswer, Refused, Done, Stepped}
+use Rattle.resolution.specs.Outcomes.{Outcome, RunAnswer}
 
 -- done is a success, as a step is
 unfoldable pub step_number : StepAnswer → ℕ

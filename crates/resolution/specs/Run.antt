@@ -4,8 +4,7 @@ use Rattle.std.proofs.Math.Option.{Option, none, some}
 use Rattle.wcsp.specs.Row.{Row}
 use Rattle.wcsp.specs.Resolve.{Pair, next_pair}
 use Rattle.stepping.specs.Step.{Stepping, refusing, steps_to, pair_word}
-use Rattle.resolution.specs.declared.Outcome.{Outcome}
-use Rattle.resolution.specs.declared.Outcome.TheVariants.{Done, Paused, Refused}
+use Rattle.resolution.specs.Outcomes.{Outcome, Done, Paused, Refused}
 use Rattle.resolution.specs.Step.{one_step}
 
 -- what a run on rows comes to: its outcome, the rows that it leaves, the words of the steps made

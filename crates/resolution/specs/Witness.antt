@@ -5,7 +5,7 @@ use Rattle.wcsp.specs.Row.{Row}
 use Rattle.wcsp.specs.Unsettled.{lowest_unsettled}
 use Rattle.words.specs.Layout.{step_word}
 use Rattle.stepping.specs.Step.{steps_to}
-use Rattle.resolution.specs.declared.Outcome.{Outcome}
+use Rattle.resolution.specs.Outcomes.{Outcome}
 use Rattle.resolution.specs.Step.{one_step}
 use Rattle.resolution.specs.Run.{Ran, run_rows}
 

@@ -8,77 +8,60 @@ ghost use Rattle.fields.specs.Limits.{max_variables};
 ghost use Rattle.table.specs.Meaning.{variables_of, row_count, table_sizes, table_rows, own_rows};
 ghost use Rattle.table.specs.Valid.{valid_table};
 ghost use Rattle.table.specs.Check.{shape_of};
-ghost use Rattle.stepping.specs.declared.Advanced.{Advanced};
+ghost use Rattle.resolution.specs.Answers.{step_answer_of};
+ghost use Rattle.resolution.specs.Outcomes.{run_answer_of};
 ghost use Rattle.resolution.specs.Calls.{step_call, run_call};
 ghost use Rattle.resolution.specs.Twelve.{run_twelve, resumed};
 
-use hunt::Hunted;
-use stepping::Advanced;
-use table::{Checked, Shape};
+use fields::refusals::Refusal;
+use table::Shape;
 
-// What a step call answers: the number of a refusal, done, or the step word.
-#[derive(Clone, Copy)]
-pub enum StepAnswer {
-    Refused(u32),
-    Done,
-    Stepped(u32),
-}
-
-// How a run ended: no pair left, limit or end of slice reached, or the number of a refusal.
-#[derive(Clone, Copy)]
+/// How a run ended: no pair is left, the limit or the end of the slice is reached, or the next step is refused.
+#[derive(Clone, Copy, Debug, PartialEq, Eq)]
 pub enum Outcome {
     Done,
     Paused,
-    Refused(u32),
+    Refused(Refusal),
 }
 
-// A run's outcome, the steps made, and the empty row's weight in the table it leaves.
-#[derive(Clone, Copy)]
+/// A run's outcome, the steps made, and the empty row's weight in the table that it leaves.
+#[derive(Clone, Copy, Debug, PartialEq, Eq)]
 pub struct RunAnswer {
     pub outcome: Outcome,
     pub steps: usize,
     pub bound: u64,
 }
 
-// What a run on a valid table comes to: its answer, and the last value of its lowest unsettled variable.
+/// What a run on a valid table comes to: its answer, and the last value of its lowest unsettled variable.
 #[derive(Clone, Copy)]
 struct Ending {
     answer: RunAnswer,
     lowest: u32,
 }
 
-// One step call: 9; done; 11; 12; else one step. Its hunt starts at variable 0, so it passes over as many buckets as the pair's variable says.
-pub fn step(t: &mut [u32]) -> StepAnswer
-    ensures returned { record { answer = result; table = t.new } ≡ step_call t.old }
+/// One step on the next pair of a table: its step word, or `None` if no pair is left.
+///
+/// The hunt starts at variable 0, so it passes over as many buckets as the pair's variable says.
+///
+/// # Errors
+///
+/// `BadTable`; then, of the finished step, `WeightTooHigh` and `TableFull`. The table is left as it was.
+pub fn step(t: &mut [u32]) -> Result<Option<u32>, Refusal>
+    ensures returned { record { answer = step_answer_of result; table = t.new } ≡ step_call t.old }
 {
     let checked = table::check(t);
-    let Checked::Table(shape) = checked else {
-        return StepAnswer::Refused(9);
+    let Some(shape) = checked else {
+        return Err(Refusal::BadTable);
     };
-    let base = shape.variables + 2;
-    let count = shape.count;
-    let found = hunt::hunt(t, base, count, 0, 0, 0, shape.fulls);
-    let Hunted::Next(v, i, j) = found else {
-        return StepAnswer::Done;
+    let found = hunt::hunt(t, shape.variables + 2, shape.count, 0, 0, 0, shape.fulls);
+    let Some(next) = found else {
+        return Ok(None);
     };
-    let advanced = stepping::advance(t, shape, v, i, j);
-    match advanced {
-        Advanced::Made(_) => StepAnswer::Stepped(words::step(v, i as u32, j as u32)),
-        Advanced::Refused(k) => StepAnswer::Refused(k),
-    }
+    stepping::advance(t, shape, next.passed, next.first, next.second)?;
+    Ok(Some(words::step(next.passed, next.first as u32, next.second as u32)))
 }
 
-// The number of a refusal, 0 for a step that was made.
-fn refusal_in(advanced: Advanced) -> u32
-    ensures { ((k : ℕ) → advanced ≡ Advanced.Refused k → result ≡ k) × ((count : ℕ) → advanced ≡ Advanced.Made count → result ≡ 0) }
-{
-    match advanced {
-        Advanced::Made(_) => 0,
-        Advanced::Refused(k) => k,
-    }
-}
-
-// What a run that ends so in this table comes to.
+/// What a run that ends so in this table comes to.
 fn ended(
     t: &[u32],
     base: usize,
@@ -100,7 +83,7 @@ fn ended(
     }
 }
 
-// The second row at which the hunt goes on after a step on rows i and j. A heavier row i stays and goes with none before row j's place.
+/// The second row at which the hunt goes on after a step on rows i and j. A heavier row i stays and goes with none before row j's place.
 fn resume(t: &[u32], base: usize, i: usize, j: usize) -> usize
     requires { (valid_table t.now ≡ true) × (base ≡ variables_of t.now + 2) × (i < row_count t.now) × (j < row_count t.now) }
     ensures { result ≡ resumed (table_rows t.now) i j }
@@ -110,10 +93,10 @@ fn resume(t: &[u32], base: usize, i: usize, j: usize) -> usize
     if second < first { j } else { 0 }
 }
 
-// Up to `most` steps on a valid table. The hunt goes on at the lowest unsettled variable, and there at the first row of the last step.
+/// Up to `most` steps on a valid table. The hunt goes on at the lowest unsettled variable, and there at the first row of the last step.
 fn run_valid(t: &mut [u32], shape: Shape, most: usize, slice: &mut [u32]) -> Ending
     requires { (valid_table t.old ≡ true) × (shape ≡ shape_of t.old) × (most ≤ length slice.old) }
-    ensures { (record { answer = result.answer; table = t.new; slice = slice.new } ≡ run_twelve t.old most slice.old) × (result.lowest ≡ lowest_unsettled (table_sizes t.new) (own_rows t.new)) }
+    ensures { (record { answer = run_answer_of result.answer; table = t.new; slice = slice.new } ≡ run_twelve t.old most slice.old) × (result.lowest ≡ lowest_unsettled (table_sizes t.new) (own_rows t.new)) }
 {
     let n = shape.variables;
     let fulls = shape.fulls;
@@ -123,12 +106,13 @@ fn run_valid(t: &mut [u32], shape: Shape, most: usize, slice: &mut [u32]) -> End
     let mut skip = 0;
     let mut from = 0;
     let mut made = 0;
+    // The steps made are the answer, and the hunt comes before the test of the limit: no range says both.
     loop {
         let found = hunt::hunt(t, base, count, lowest, skip, from, fulls);
-        let Hunted::Next(passed, i, j) = found else {
+        let Some(pair) = found else {
             return ended(t, base, count, Outcome::Done, made, n as u32);
         };
-        lowest += passed;
+        lowest += pair.passed;
         if made == most {
             return ended(t, base, count, Outcome::Paused, made, lowest);
         }
@@ -137,32 +121,35 @@ fn run_valid(t: &mut [u32], shape: Shape, most: usize, slice: &mut [u32]) -> End
             count,
             fulls,
         };
-        let next = resume(t, base, i, j);
-        let advanced = stepping::advance(t, here, lowest, i, j);
-        let Advanced::Made(now) = advanced else {
-            let outcome = Outcome::Refused(refusal_in(advanced));
-            return ended(t, base, count, outcome, made, lowest);
-        };
-        slice[made] = words::step(lowest, i as u32, j as u32);
+        let next = resume(t, base, pair.first, pair.second);
+        let advanced = stepping::advance(t, here, lowest, pair.first, pair.second);
+        match advanced {
+            Ok(now) => count = now,
+            Err(refusal) => {
+                return ended(t, base, count, Outcome::Refused(refusal), made, lowest);
+            }
+        }
+        slice[made] = words::step(lowest, pair.first as u32, pair.second as u32);
         made += 1;
-        count = now;
-        skip = i;
+        skip = pair.first;
         from = next;
     }
 }
 
-// A run: single steps, tested before each: done, paused, 11, 12. It tests the table once, and each hunt goes on where the last one ended.
+/// Steps on a table, as many as the limit and the slice for their words allow. Before each step: done, paused, `WeightTooHigh`, `TableFull`.
+///
+/// It tests the table once (`BadTable`), and each hunt goes on where the last one ended.
 pub fn run(t: &mut [u32], limit: usize, slice: &mut [u32]) -> RunAnswer
-    ensures returned { record { answer = result; table = t.new; slice = slice.new } ≡ run_call t.old limit slice.old }
+    ensures returned { record { answer = run_answer_of result; table = t.new; slice = slice.new } ≡ run_call t.old limit slice.old }
 {
     let checked = table::check(t);
-    let Checked::Table(shape) = checked else {
+    let Some(shape) = checked else {
         return RunAnswer {
-            outcome: Outcome::Refused(9),
+            outcome: Outcome::Refused(Refusal::BadTable),
             steps: 0,
             bound: 0,
         };
     };
-    let most = fields::lesser(limit as u64, slice.len() as u64) as usize;
+    let most = limit.min(slice.len());
     run_valid(t, shape, most, slice).answer
 }

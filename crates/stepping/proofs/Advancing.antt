@@ -30,30 +30,14 @@ use Rattle.table.proofs.RawRows.{weight_raws}
 use Rattle.table.proofs.Canonical.{room_rows}
 use Rattle.table.proofs.Finishing.{finished_valid}
 use Rattle.table.proofs.Reading.{Ready}
-use Rattle.stepping.specs.declared.Advanced.TheVariants.{Made, Refused}
 use Rattle.stepping.specs.Step.{Stepping, refusing, steps_to, allowed, refusal_of}
-use Rattle.stepping.specs.Advance.{AdvanceReturned, advance_returns, advance_call}
+use Rattle.stepping.specs.Advance.{Made, AdvanceReturned, advance_returns, advance_call}
 use Rattle.stepping.specs.Turns.{weight_at, heavy_to, Placed, raised_to, taken_from, appended_to, Surveyed}
 use Rattle.stepping.proofs.Agreement.{taken_rows, heavy_agrees, raised_agrees, raised_light, appended_agrees}
 use Rattle.stepping.proofs.Surveying.{twelve_at}
 use Rattle.stepping.proofs.Verdicts.{Verdict, refused as refused_by, made, verdict}
 
--- ---- refused or allowed
-
-refused_call : (t : List ℕ) (number : ℕ) (s : Stepping) → number ≡ refusal_of s → (number ≡ 0 → ⊥)
-    → ◌≡◌ {A = AdvanceReturned} (record { answer = Refused number; table = t }) (advance_returns t s)
-unfolding refusal_of advance_returns
-refused_call t number (refusing k) e n = ap (λ m. record { answer = Refused m; table = t }) e
-refused_call t number (steps_to pr rs) e n = absurd (n e)
-
-pub refused : (t : List ℕ) (pr : Pair) (number : ℕ) → number ≡ refusal_of (allowed (capacity_of t) pr (resolve (domains t) pr (table_rows t))) → (number ≡ 0 → ⊥)
-    → ◌≡◌ {A = AdvanceReturned} (record { answer = Refused number; table = t }) (advance_call t pr)
-unfolding advance_call
-refused t pr number e n = refused_call t number (allowed (capacity_of t) pr (resolve (domains t) pr (table_rows t))) e n
-
-pub planned-zero : {t : List ℕ} {pr : Pair} {buffer places : List ℕ} {kept' moved number : ℕ} → Surveyed t pr buffer places kept' moved number → number ≡ 0
-    → Surveyed t pr buffer places kept' moved 0
-planned-zero q e = rw e at q
+-- ---- allowed
 
 -- a step that is not refused is made, and its rows are light enough and fit
 cleared : (most : ℕ) (pr : Pair) (rs : List Row) → 0 ≡ refusal_of (allowed most pr rs)
@@ -93,7 +77,7 @@ end_rows t pr = resolve (domains t) pr (table_rows t)
 -- ---- the writes
 
 module _ (t : List ℕ) (n count : ℕ) (r : Ready t n count) (pr : Pair) (p : MayResolve (domains t) (table_rows t) pr)
-    (buffer places : List ℕ) (kept' moved : ℕ) (q : Surveyed t pr buffer places kept' moved 0) where
+    (buffer places : List ℕ) (kept' moved : ℕ) (q : Surveyed t pr buffer places kept' moved) where
   long : length (clauses_in kept' buffer) ≡ kept'
   long = clauses_in-length kept' buffer
 

@@ -8,6 +8,7 @@ use lib.ListN.{length, get_or, take, length-append, length-map, get_or-eq_defaul
 use lib.Seq.{take-suc}
 use lib.Dec.{eqb, ltb}
 use borrow.Author.Tests.{eqb-true, eqb-false, eq-eqb, ne_eqb, ltb-false}
+use Rattle.std.specs.Prelude.{Option, Some, None}
 use Rattle.wcsp.specs.Clause.{same}
 use Rattle.wcsp.specs.Row.{Row, weight_of, Absent, ValidRows}
 use Rattle.wcsp.specs.Resolve.{no_row, lessen}
@@ -18,8 +19,6 @@ use Rattle.wcsp.proofs.Adding.{member, raised, fresh, single, raised-nil}
 use Rattle.wcsp.proofs.Raising.{set_weight, raised-length, raised_other, raised_more, raised_more_absent, fresh_more_absent, fresh_more_at}
 use Rattle.wcsp.proofs.TooHeavy.{heavy_any, heavy_any_more, weight_of-at}
 use Rattle.clause.specs.Packed.{signs_of}
-use Rattle.rows.specs.declared.Found.{Found}
-use Rattle.rows.specs.declared.Found.TheVariants.{At, Missing}
 use Rattle.rows.specs.Raw.{max_weight, Raw, raw_row, find_from, reweighed, without}
 use Rattle.storing.proofs.Changes.{reweighed_past}
 use Rattle.table.specs.Clauses.{clause_from}
@@ -77,11 +76,11 @@ place_rows rs a n e c t = go (find_from (raw_row (clause_from c) 0) 0 (map raw_o
     s : signs_of (clause_from c) ≡ c
     s = signs_clause_from c t
 
-    go : (f : Found) → find_from (raw_row (clause_from c) 0) 0 (map raw_of rs) ≡ f → Place c rs (place_of n f)
-    go (At k) g =
+    go : (f : Option ℕ) → find_from (raw_row (clause_from c) 0) 0 (map raw_of rs) ≡ f → Place c rs (place_of n f)
+    go (Some k) g =
         let f = found_at (clause_from c) a k g in
         here f.within (same-eq _ _ f.has ∙ s)
-    go Missing g = nowhere (sym e) (rw s at (found_missing (clause_from c) a g))
+    go None g = nowhere (sym e) (rw s at (found_missing (clause_from c) a g))
 
 apart_other : {c : List ℕ} {cs : List (List ℕ)} → Apart c cs → (m : ℕ) → m < length cs → same (get_or cs m []) c ≡ false
 apart_other nil_apart m h = absurd (omega arith)

@@ -10,10 +10,8 @@ use Rattle.wcsp.specs.Row.{Row}
 use Rattle.wcsp.specs.Resolve.{Pair, resolve}
 use Rattle.table.specs.Layout.{too_heavy}
 use Rattle.table.specs.Meaning.{table_rows, domains, capacity_of}
-use Rattle.stepping.specs.declared.Advanced.{Advanced}
-use Rattle.stepping.specs.declared.Advanced.TheVariants.{Made, Refused}
 use Rattle.stepping.specs.Step.{Stepping, refusing, steps_to, allowed, with_rows}
-use Rattle.stepping.specs.Advance.{AdvanceReturned, advance_returns, advance_call}
+use Rattle.stepping.specs.Advance.{Advanced, Made, Refused, AdvanceReturned, advance_returns, advance_call}
 use Rattle.stepping.proofs.Verdicts.{Verdict, refused, made, verdict}
 
 -- a step that was made: its rows fit

@@ -5,6 +5,7 @@ pub mod Places
 pub mod Writes
 pub mod Agreement
 pub mod Surveying
+pub mod Refusing
 pub mod Advancing
 pub mod Answers
 pub mod Following

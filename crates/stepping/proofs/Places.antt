@@ -9,12 +9,11 @@ use lib.ListN.{length, get_or, drop, set, length-set, get_or-eq_default}
 use lib.Seq.{get_or-set_same, get_or-set_other}
 use lib.Dec.{eqb, ltb}
 use borrow.Author.Tests.{eqb-true, eqb-false, eq-eqb, ne_eqb, le-ltb}
+use Rattle.std.specs.Prelude.{Option, Some, None}
 use Rattle.clause.specs.declared.Clause.{Clause}
 use Rattle.clause.specs.Packed.{signs_of, Holds}
 use Rattle.conclusions.specs.Buffer.{clauses_in}
 use Rattle.conclusions.proofs.Filling.{clauses_in-same-at}
-use Rattle.rows.specs.declared.Found.{Found}
-use Rattle.rows.specs.declared.Found.TheVariants.{At, Missing}
 use Rattle.rows.specs.Raw.{row_width, max_weight, Raw, no_raw, raw_at, raws_in, weight_in, raw_row, find_from}
 use Rattle.rows.proofs.Flat.{length-raws_from, raw_at_lem}
 use Rattle.rows.proofs.RowWords.{weight_none}
@@ -32,14 +31,14 @@ module _ (t : List ℕ) (base count : ℕ) (x : Clause) where
   place_is : place_in count (raws_in t base count) (signs_of x) ≡ place_of count (find_from (raw_row x 0) 0 (raws_in t base count))
   place_is = ap (λ y. place_of count (find_from (raw_row y 0) 0 (raws_in t base count))) (clause_from_signs x)
 
-  pub place_found : (k : ℕ) (f : Found) → f ≡ find_from (raw_row x 0) 0 (raws_in t base count) → f ≡ At k
+  pub place_found : (k : ℕ) (f : Option ℕ) → f ≡ find_from (raw_row x 0) 0 (raws_in t base count) → f ≡ Some k
       → (k ≡ place_in count (raws_in t base count) (signs_of x)) × (k ≤ count)
   unfolding place_of
   place_found k f e g =
       let there = (find_at (raw_row x 0) (raws_in t base count) k (sym e ∙ g)).there in
       (sym (place_is ∙ ap (λ o. place_of count o) (sym e ∙ g)), omega (arith, length-raws_from count (drop base t)))
 
-  pub place_none : (f : Found) → f ≡ find_from (raw_row x 0) 0 (raws_in t base count) → f ≡ Missing
+  pub place_none : (f : Option ℕ) → f ≡ find_from (raw_row x 0) 0 (raws_in t base count) → f ≡ None
       → (count ≡ place_in count (raws_in t base count) (signs_of x)) × (count ≤ count)
   unfolding place_of
   place_none f e g = (sym (place_is ∙ ap (λ o. place_of count o) (sym e ∙ g)), omega arith)

@@ -183,10 +183,10 @@ module _ (t : List ℕ) (valid : valid_table t ≡ true) (v i j : ℕ) (p : MayR
 
 -- ---- the verdict
 
-planned : {t : List ℕ} {pr : Pair} {buffer places : List ℕ} {kept' first second moved fresh' : ℕ} {heavy' : Bool} (number : ℕ)
-    → Seen t pr buffer places kept' first second moved fresh' heavy' → number ≡ refusal_of (allowed (capacity_of t) pr (resolve (domains t) pr (table_rows t)))
-    → Surveyed t pr buffer places kept' moved number
-planned number s e =
+pub planned : {t : List ℕ} {pr : Pair} {buffer places : List ℕ} {kept' first second moved fresh' : ℕ} {heavy' : Bool}
+    → Seen t pr buffer places kept' first second moved fresh' heavy' → 0 ≡ refusal_of (allowed (capacity_of t) pr (resolve (domains t) pr (table_rows t)))
+    → Surveyed t pr buffer places kept' moved
+planned s e =
     record { few = s.few; packed = s.packed; clauses = s.clauses; weight = s.weight; placed = s.placed; result = e }
 
 module _ (t : List ℕ) (valid : valid_table t ≡ true) {pr : Pair} {buffer places : List ℕ} {kept' first second moved fresh' : ℕ} {heavy' : Bool}
@@ -202,9 +202,10 @@ module _ (t : List ℕ) (valid : valid_table t ≡ true) {pr : Pair} {buffer pla
       let e : length rs - removed pr rs ≡ row_count t - a - b = rw (← fa, ← fb) (omega arith) in
       s.fresh_is ∙ ap (λ k. k + fresh') e
 
-  pub surveyed : (shape : Shape) → shape ≡ shape_of t → (a b room number : ℕ) → a ≡ cond (eqb first moved) 1 0 → b ≡ cond (eqb second moved) 1 0
+  -- the number that the tests give is that of the finished step
+  pub judged : (shape : Shape) → shape ≡ shape_of t → (a b room number : ℕ) → a ≡ cond (eqb first moved) 1 0 → b ≡ cond (eqb second moved) 1 0
       → room ≡ capacity (length t) shape.variables → number ≡ cond heavy' 11 (cond (ltb room (shape.count - a - b + fresh')) 12 0)
-      → Surveyed t pr buffer places kept' moved number
-  surveyed shape e =
+      → number ≡ refusal_of (allowed (capacity_of t) pr (resolve (domains t) pr (table_rows t)))
+  judged shape e =
       rw e (λ a b room number ea eb er n.
-      planned number s (rw (s.heavy_is, ← after a b ea eb, er) at n ∙ says_all (capacity_of t) pr (resolve (domains t) pr (table_rows t))))
+      rw (s.heavy_is, ← after a b ea eb, er) at n ∙ says_all (capacity_of t) pr (resolve (domains t) pr (table_rows t)))

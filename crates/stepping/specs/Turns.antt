@@ -1,10 +1,8 @@
 -- Inner: what the look and the writes of a step do, one clause after another, on raw rows.
-use Rattle.std.specs.Prelude.{ℕ, zero, suc, ◌+◌, ◌-◌, ◌<◌, ◌≤◌, ◌≡◌, Bool, false, ◌||◌, cond, List, [], ◌∷◌, ◌++◌, get_or, eqb, ltb}
+use Rattle.std.specs.Prelude.{ℕ, zero, suc, ◌+◌, ◌-◌, ◌<◌, ◌≤◌, ◌≡◌, Bool, false, ◌||◌, cond, List, [], ◌∷◌, ◌++◌, get_or, eqb, ltb, Option, Some, None}
 use Rattle.wcsp.specs.Clause.{kept}
 use Rattle.wcsp.specs.Resolve.{Pair, moved_weight, conclusions_of, resolve}
 use Rattle.conclusions.specs.Buffer.{clauses_in, PackedBuffer}
-use Rattle.rows.specs.declared.Found.{Found}
-use Rattle.rows.specs.declared.Found.TheVariants.{At, Missing}
 use Rattle.rows.specs.Raw.{max_weight, Raw, no_raw, raws_in, weight_in, raw_row, find_from, reweighed, without}
 use Rattle.table.specs.Clauses.{clause_from}
 use Rattle.table.specs.Layout.{rows_at}
@@ -18,9 +16,9 @@ weight_at qs k = weight_in (get_or qs k no_raw)
 -- ---- the look
 
 -- where a search through n rows ended: behind the last if nothing was found
-unfoldable pub place_of : ℕ → Found → ℕ
-place_of n (At k) = k
-place_of n Missing = n
+unfoldable pub place_of : ℕ → Option ℕ → ℕ
+place_of n (Some k) = k
+place_of n None = n
 
 -- where the row of a clause stands
 abbrev pub place_in : ℕ → List Raw → List ℕ → ℕ
@@ -64,11 +62,11 @@ appended_to u n places cs qs (suc m) =
 
 -- ---- the plan of a step
 
--- what the look at a table leaves: the conclusions that count, where their rows stand, the moved weight, and whether the step may be made
-pub record Surveyed (t : List ℕ) (pr : Pair) (buffer places : List ℕ) (kept' moved number : ℕ) : Type 0 where
+-- what the look at a table leaves: the conclusions that count, where their rows stand, the moved weight; and the step may be made
+pub record Surveyed (t : List ℕ) (pr : Pair) (buffer places : List ℕ) (kept' moved : ℕ) : Type 0 where
   pub few : kept' ≤ 26
   pub packed : PackedBuffer buffer
   pub clauses : clauses_in kept' buffer ≡ kept (domains t) (conclusions_of (domains t) pr (table_rows t))
   pub weight : moved ≡ moved_weight pr (table_rows t)
   pub placed : Placed (row_count t) (raws_in t (rows_at (variables_of t)) (row_count t)) (clauses_in kept' buffer) kept' places
-  pub result : number ≡ refusal_of (allowed (capacity_of t) pr (resolve (domains t) pr (table_rows t)))
+  pub result : 0 ≡ refusal_of (allowed (capacity_of t) pr (resolve (domains t) pr (table_rows t)))

@@ -1,7 +1,7 @@
 // One step on a table that the caller lends: it looks at every conclusion first, then writes, whole or not at all.
 #![tactic(auto)]
 
-ghost use Rattle.std.specs.Prelude.{◌≡◌, true, cond, ℕ, ◌+◌, ◌*◌, ◌<◌, ◌≤◌, length, get_or, eqb, ltb};
+ghost use Rattle.std.specs.Prelude.{◌≡◌, IfOk, IfErr, true, cond, ℕ, ◌+◌, ◌*◌, ◌<◌, ◌≤◌, length, get_or, eqb, ltb};
 ghost use Rattle.wcsp.specs.Resolve.{MayResolve};
 ghost use Rattle.clause.specs.Packed.{FitsBlocks, signs_of};
 ghost use Rattle.conclusions.specs.Buffer.{clauses_in, PackedBuffer};
@@ -9,36 +9,29 @@ ghost use Rattle.rows.specs.Raw.{row_width, max_weight, raws_in, Laid, Left};
 ghost use Rattle.table.specs.Meaning.{table_rows, domains};
 ghost use Rattle.table.specs.Valid.{valid_table};
 ghost use Rattle.table.specs.Check.{shape_of};
-ghost use Rattle.stepping.specs.Advance.{advance_call};
+ghost use Rattle.fields.specs.Numbers.{number_of, refusal_in};
+ghost use Rattle.stepping.specs.Advance.{AdvanceReturned, Refused, advanced_of, advance_call};
 ghost use Rattle.stepping.specs.Turns.{weight_at, place_in, fresh_to, heavy_to, Placed, raised_to, taken_from, appended_to, Surveyed};
 
 use clause::Clause;
-use rows::Found;
+use fields::refusals::Refusal;
 use table::Shape;
 
-// A step made, with the number of rows after it; or the number of a refusal.
-#[derive(Clone, Copy)]
-pub enum Advanced {
-    Made(usize),
-    Refused(u32),
-}
-
-// What the look at the conclusions finds: how many have no row yet, and whether a weight would pass the limit.
+/// What the look at the conclusions finds: how many have no row yet, and whether a weight would pass the limit.
 #[derive(Clone, Copy)]
 struct Sight {
     pub fresh: usize,
     pub heavy: bool,
 }
 
-// The look before a step: how many conclusions count, the weight that each gets, and the refusal's number, 0 for none.
+/// A step that may be made: how many conclusions count, and the weight that each gets.
 #[derive(Clone, Copy)]
 struct Plan {
     pub kept: usize,
     pub moved: u64,
-    pub number: u32,
 }
 
-// How many rows go, of one with this weight, when the moved weight is taken from it.
+/// How many rows go, of one with this weight, when the moved weight is taken from it.
 fn used(weight: u64, moved: u64) -> usize
     ensures { (result ≡ cond (eqb weight moved) 1 0) × (result ≤ 1) }
 {
@@ -48,19 +41,19 @@ fn used(weight: u64, moved: u64) -> usize
     0
 }
 
-// Where the clause's row stands; the row count if it has none.
+/// Where the clause's row stands; the row count if it has none.
 fn place(t: &[u32], base: usize, count: usize, x: Clause) -> usize
     requires { (base + row_width * count ≤ length t.now) × FitsBlocks x }
     ensures { (result ≡ place_in count (raws_in t.now base count) (signs_of x)) × (result ≤ count) }
 {
     let found = rows::find(t, base, count, x);
     match found {
-        Found::At(k) => k,
-        Found::Missing => count,
+        Some(k) => k,
+        None => count,
     }
 }
 
-// Whether the row at this place would pass the limit.
+/// Whether the row at this place would pass the limit.
 fn passes(t: &[u32], base: usize, count: usize, k: usize, moved: u64) -> bool
     requires { (base + row_width * count ≤ length t.now) × (k ≤ count) × (moved ≤ max_weight) }
     ensures { result ≡ ltb max_weight (weight_at (raws_in t.now base count) k + moved) }
@@ -71,7 +64,7 @@ fn passes(t: &[u32], base: usize, count: usize, k: usize, moved: u64) -> bool
     rows::MAX_WEIGHT < rows::weight_of(t, base, k) + moved
 }
 
-// Notes where each conclusion's row stands; the row count for one that has none.
+/// Notes where each conclusion's row stands; the row count for one that has none.
 fn look(
     t: &[u32],
     base: usize,
@@ -86,8 +79,7 @@ fn look(
 {
     let mut fresh = 0;
     let mut heavy = false;
-    let mut m = 0;
-    while m < kept {
+    for m in 0..kept {
         let k = place(t, base, count, conclusions::clause_at(buffer, m));
         places[m] = k;
         if k == count {
@@ -96,28 +88,25 @@ fn look(
         if passes(t, base, count, k, moved) {
             heavy = true;
         }
-        m += 1;
     }
     Sight { fresh, heavy }
 }
 
-// The moved weight added to every row that was found.
+/// The moved weight added to every row that was found.
 fn raise(t: &mut [u32], base: usize, count: usize, places: &[usize; 26], kept: usize, moved: u64)
     requires { let qs = raws_in t.old base count in Laid t.old base qs × (kept ≤ 26) × ((m : ℕ) → m < kept → weight_at (raised_to moved places.now qs m) (get_or places.now m 0) + moved ≤ max_weight) }
     ensures { Left t.old base t.new (raised_to moved places.now (raws_in t.old base count) kept) }
 {
-    let mut m = 0;
-    while m < kept {
+    for m in 0..kept {
         let k = places[m];
         if k < count {
             let weight = rows::weight_of(t, base, k);
             storing::reweigh(t, base, count, k, weight + moved);
         }
-        m += 1;
     }
 }
 
-// The moved weight taken from row k; a row at 0 is removed. The answer is the number of rows left.
+/// The moved weight taken from row k; a row at 0 is removed. The answer is the number of rows left.
 fn lessen(t: &mut [u32], base: usize, count: usize, k: usize, moved: u64) -> usize
     requires { Laid t.old base (raws_in t.old base count) × (k < count) × (moved ≤ weight_at (raws_in t.old base count) k) }
     ensures { let qs = taken_from moved k (raws_in t.old base count) in Left t.old base t.new qs × (result ≡ length qs) }
@@ -131,7 +120,7 @@ fn lessen(t: &mut [u32], base: usize, count: usize, k: usize, moved: u64) -> usi
     count
 }
 
-// A new row for every conclusion that had none, in order. `old` is the count that marks those, `count` the rows there now.
+/// A new row for every conclusion that had none, in order. `old` is the count that marks those, `count` the rows there now.
 fn append_missing(
     t: &mut [u32],
     base: usize,
@@ -146,32 +135,30 @@ fn append_missing(
     ensures { let qs = appended_to moved old places.now (clauses_in kept buffer.now) (raws_in t.old base count) kept in Left t.old base t.new qs × (result ≡ length qs) }
 {
     let mut now = count;
-    let mut m = 0;
-    while m < kept {
+    for m in 0..kept {
         if places[m] == old {
             storing::append(t, base, now, conclusions::clause_at(buffer, m), moved);
             now += 1;
         }
-        m += 1;
     }
     now
 }
 
-// The number of the refusal, 0 for none, where so many rows are left of those that were there: 11 comes before 12.
-fn refusal_of(sight: Sight, left: usize, room: usize) -> u32
+/// Whether a step may be made, where so many rows are left of those that were there: a weight that is too high comes before a table that is full.
+fn allow(sight: Sight, left: usize, room: usize) -> Result<(), Refusal>
     requires { left + sight.fresh < 1048576 }
-    ensures { result ≡ cond sight.heavy 11 (cond (ltb room (left + sight.fresh)) 12 0) }
+    ensures { refusal_in result ≡ cond sight.heavy 11 (cond (ltb room (left + sight.fresh)) 12 0) }
 {
     if sight.heavy {
-        return 11;
+        return Err(Refusal::WeightTooHigh);
     }
     if room < left + sight.fresh {
-        return 12;
+        return Err(Refusal::TableFull);
     }
-    0
+    Ok(())
 }
 
-// The look at the whole step: its conclusions and their places, and whether it may be made.
+/// The look at the whole step: its conclusions and their places, or why it may not be made.
 fn survey(
     t: &[u32],
     shape: Shape,
@@ -180,9 +167,10 @@ fn survey(
     j: usize,
     buffer: &mut [u32; 104],
     places: &mut [usize; 26],
-) -> Plan
+) -> Result<Plan, Refusal>
     requires { (valid_table t.now ≡ true) × (shape ≡ shape_of t.now) × MayResolve (domains t.now) (table_rows t.now) (record { variable = v; first = i; second = j }) × PackedBuffer buffer.old × (length places.old ≡ 26) }
-    ensures { Surveyed t.now (record { variable = v; first = i; second = j }) buffer.new places.new result.kept result.moved result.number }
+    ensures planned { IfOk result (λ plan. Surveyed t.now (record { variable = v; first = i; second = j }) buffer.new places.new plan.kept plan.moved) }
+    ensures refused { IfErr result (λ r. ◌≡◌ {A = AdvanceReturned} (record { answer = Refused (number_of r); table = t.now }) (advance_call t.now (record { variable = v; first = i; second = j }))) }
 {
     let n = shape.variables;
     let base = n + 2;
@@ -190,7 +178,7 @@ fn survey(
     let fulls = shape.fulls;
     let first = rows::weight_of(t, base, i);
     let second = rows::weight_of(t, base, j);
-    let moved = fields::lesser(first, second);
+    let moved = first.min(second);
     let kept = conclusions::conclude(
         buffer,
         rows::clause_of(t, base, i),
@@ -200,32 +188,25 @@ fn survey(
     );
     let sight = look(t, base, count, buffer, kept, moved, places);
     let left = count - used(first, moved) - used(second, moved);
-    Plan {
-        kept,
-        moved,
-        number: refusal_of(sight, left, table::room(t.len(), n)),
-    }
+    allow(sight, left, table::room(t.len(), n))?;
+    Ok(Plan { kept, moved })
 }
 
-// The step on rows i and j of a valid table, a permitted pair on v.
-#[tactic(auto, using(crate::proofs::Advancing::refused))]
-pub fn advance(t: &mut [u32], shape: Shape, v: u32, i: usize, j: usize) -> Advanced
+/// The step on rows i and j of a valid table, a permitted pair on v, whole or not at all: the number of rows after it.
+pub fn advance(t: &mut [u32], shape: Shape, v: u32, i: usize, j: usize) -> Result<usize, Refusal>
     requires { (valid_table t.old ≡ true) × (shape ≡ shape_of t.old) × MayResolve (domains t.old) (table_rows t.old) (record { variable = v; first = i; second = j }) }
-    ensures { record { answer = result; table = t.new } ≡ advance_call t.old (record { variable = v; first = i; second = j }) }
+    ensures { record { answer = advanced_of result; table = t.new } ≡ advance_call t.old (record { variable = v; first = i; second = j }) }
 {
     let n = shape.variables;
     let base = n + 2;
     let count = shape.count;
     let mut buffer = [0u32; 104];
     let mut places = [0usize; 26];
-    let plan = survey(t, shape, v, i, j, &mut buffer, &mut places);
-    if plan.number != 0 {
-        return Advanced::Refused(plan.number);
-    }
+    let plan = survey(t, shape, v, i, j, &mut buffer, &mut places)?;
     raise(t, base, count, &places, plan.kept, plan.moved);
     let fewer = lessen(t, base, count, j, plan.moved);
     let old = lessen(t, base, fewer, i, plan.moved);
     let now = append_missing(t, base, old, count, &buffer, &places, plan.kept, plan.moved);
     t[n + 1] = words::count(now as u32);
-    Advanced::Made(now)
+    Ok(now)
 }

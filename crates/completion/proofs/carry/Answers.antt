@@ -40,7 +40,7 @@ bounds-t-i c =
 pub returns-then-payload-value : goal.returns-then-payload-value
 returns-then-payload-value c =
     let l = c.loop-i in
-    out_of_range c.args.t.now c.requires.0 c.args.n c.requires.1 c.args.k c.args.fixed.now (omega arith) (omega arith) l.i (l.i - 1) (omega arith) (omega arith) l.values l.invariant (l.i - 1 - c.args.k) (omega arith) _ c.payload.ensures.0 (omega (arith, c.wide-value.ensures.0))
+    out_of_range c.args.t.now c.requires.0 c.args.n c.requires.1 c.args.k c.args.fixed.now (omega arith) (omega arith) l.i (l.i - 1) (omega arith) (omega arith) l.values l.invariant (l.i - 1 - c.args.k) (omega arith) _ c.payload.ensures.0 (omega (arith, c.from-value.ensures))
 
 pub overflow_cast-i : goal.overflow_cast-i
 overflow_cast-i c =
@@ -50,19 +50,19 @@ overflow_cast-i c =
 pub overflow_shl-value : goal.overflow_shl-value
 overflow_shl-value c =
     let l = c.loop-i in
-    let w = c.wide-value.ensures.0 in
+    let w = c.from-value.ensures in
     omega (arith, w, value_low c.args.t.now c.requires.0 c.args.n c.requires.1 c.args.k c.args.fixed.now (omega arith) (omega arith) l.i (l.i - 1) (omega arith) (omega arith) l.values l.invariant (l.i - 1 - c.args.k) (omega arith) _ c.payload.ensures.0 (omega (arith, w)))
 
 pub replaced-values-requires : goal.replaced-values-requires
 replaced-values-requires c =
     let l = c.loop-i in
-    let w = c.wide-value.ensures.0 in
+    let w = c.from-value.ensures in
     (l.invariant.holds.packed, variable_low c.args.t.now c.requires.0 c.args.n c.requires.1 c.args.k c.args.fixed.now (omega arith) (omega arith) l.i (l.i - 1) (omega arith) (omega arith) l.values l.invariant (l.i - 1 - c.args.k) (omega arith), rw w (bit_small _ (value_low c.args.t.now c.requires.0 c.args.n c.requires.1 c.args.k c.args.fixed.now (omega arith) (omega arith) l.i (l.i - 1) (omega arith) (omega arith) l.values l.invariant (l.i - 1 - c.args.k) (omega arith) _ c.payload.ensures.0 (omega (arith, w)))))
 
 pub loop-i-preserved : goal.loop-i-preserved
 loop-i-preserved c =
     let l = c.loop-i in
-    let w = c.wide-value.ensures.0 in
+    let w = c.from-value.ensures in
     one_more c.args.t.now c.requires.0 c.args.n c.requires.1 c.args.k c.args.fixed.now (omega arith) (omega arith) l.i (l.i - 1) (omega arith) (omega arith) l.values l.invariant (l.i - 1 - c.args.k) (omega arith) _ c.payload.ensures.0 (omega (arith, w)) _ (rw w at c.replaced-values.ensures)
 
 pub returns : goal.returns

@@ -7,6 +7,3 @@ use Rattle.encoding.proofs.distinct.Given as goal
 
 abbrev pub invariant-loop-i : goal.invariant-loop-i
 invariant-loop-i l = Counted (signs_of l.fulls) l.at l.instance l.pending l.count l.i
-
-abbrev pub decreases-loop-i : goal.decreases-loop-i
-decreases-loop-i l = length l.instance - l.i

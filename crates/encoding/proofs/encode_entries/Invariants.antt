@@ -7,6 +7,3 @@ use Rattle.encoding.proofs.encode_entries.Given as goal
 
 abbrev pub invariant-loop-i : goal.invariant-loop-i
 invariant-loop-i l = Written (signs_of l.fulls) l.at l.instance l.initial.t l.base l.pending l.count l.t l.i
-
-abbrev pub decreases-loop-i : goal.decreases-loop-i
-decreases-loop-i l = length l.instance - l.i

@@ -7,6 +7,3 @@ use Rattle.encoding.proofs.positive.Given as goal
 
 abbrev pub invariant-loop-i : goal.invariant-loop-i
 invariant-loop-i l = (l.n + positives (drop l.i l.instance) ≡ positives (drop l.at l.instance)) × (l.n ≤ l.i)
-
-abbrev pub decreases-loop-i : goal.decreases-loop-i
-decreases-loop-i l = length l.instance - l.i

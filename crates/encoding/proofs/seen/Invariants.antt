@@ -6,6 +6,3 @@ use Rattle.encoding.proofs.seen.Given as goal
 
 abbrev pub invariant-loop-i : goal.invariant-loop-i
 invariant-loop-i l = Unseen (signs_of l.fulls) l.at l.instance (signs_of l.clause) l.pending l.i × (l.i ≤ l.end)
-
-abbrev pub decreases-loop-i : goal.decreases-loop-i
-decreases-loop-i l = l.end - l.i

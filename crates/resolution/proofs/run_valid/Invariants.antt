@@ -7,9 +7,9 @@ use Rattle.table.specs.Check.{full_clause}
 use Rattle.resolution.proofs.Going.{Going}
 use Rattle.resolution.proofs.run_valid.Given as goal
 
-abbrev pub invariant-loop-passed : goal.invariant-loop-passed
-invariant-loop-passed l =
+abbrev pub invariant-loop-pair : goal.invariant-loop-pair
+invariant-loop-pair l =
     Going l.initial.t l.most l.initial.slice l.t l.slice l.count l.lowest l.skip l.from l.made × (l.base ≡ variables_of l.initial.t + 2) × (l.n ≡ variables_of l.initial.t) × (l.fulls ≡ full_clause (domains l.initial.t))
 
-abbrev pub decreases-loop-passed : goal.decreases-loop-passed
-decreases-loop-passed l = l.most - l.made
+abbrev pub decreases-loop-pair : goal.decreases-loop-pair
+decreases-loop-pair l = l.most - l.made

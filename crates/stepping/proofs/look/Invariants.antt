@@ -1,10 +1,6 @@
 -- `look` meets its contract. The loop's invariant is `Looking`: the clauses passed have their places noted, the missing ones are counted, and a weight too great is marked.
-use Prim.Native.Nat.{◌-◌}
 use Rattle.stepping.proofs.Places.{Looking}
 use Rattle.stepping.proofs.look.Given as goal
 
 abbrev pub invariant-loop-m : goal.invariant-loop-m
 invariant-loop-m l = Looking l.t l.base l.count l.buffer l.kept l.moved l.places l.fresh l.heavy l.m
-
-abbrev pub decreases-loop-m : goal.decreases-loop-m
-decreases-loop-m l = l.kept - l.m

@@ -1,8 +1,15 @@
 -- `survey` meets its contract: the callees' answers are all that `Seen` asks, and the number is that of the finished step.
 use native.Mathlib.Omega.{arith}
-use Rattle.stepping.proofs.Surveying.{Bounds, bounds, premise_below, full-packed, Seen, seen, surveyed}
+use mathlib.Core.Path.{◌≡◌, sym, ap, ◌∙◌}
+use Rattle.std.proofs.lemmas.Result.{err_from_is_err_and}
+use Rattle.fields.specs.Numbers.{refusal_in}
+use Rattle.wcsp.specs.Resolve.{resolve}
+use Rattle.table.specs.Meaning.{table_rows, domains, capacity_of}
+use Rattle.stepping.specs.Step.{allowed, refusal_of}
+use Rattle.stepping.proofs.Refusing.{refused}
+use Rattle.stepping.proofs.Surveying.{Bounds, bounds, premise_below, full-packed, Seen, seen, planned, judged}
 use Rattle.stepping.proofs.survey.Goals as goal
-use Rattle.stepping.proofs.survey.Goals.{After-look-sight, Start}
+use Rattle.stepping.proofs.survey.Goals.{After-allow, Start}
 
 limits : (s : Start) → Bounds s.args.t.now s.args.shape s.args.v s.args.i s.args.j
 limits s = let g = s.args in bounds g.t.now s.requires.0 g.shape s.requires.1 g.v g.i g.j s.requires.2
@@ -42,19 +49,19 @@ look-sight-requires c =
     let found = c.conclude-kept.ensures in
     let first = c.weight_of-first.ensures.1 in
     let b = limits (goal.at.look-sight-requires c).Start in
-    (b.room, found.1, omega (arith, first, c.lesser-moved.ensures), found.2, c.requires.4)
+    (b.room, found.1, omega (arith, first, c.min-moved.ensures), found.2, c.requires.4)
 
 -- all that is known when the look is over
-known : (l : After-look-sight)
+known : (l : After-allow)
     → Seen l.args.t.now
     (record { variable = l.args.v; first = l.args.i; second = l.args.j })
     l.conclude-kept.new.buffer l.look-sight.new.places l.conclude-kept.result
-    l.weight_of-first.result l.weight_of-second.result l.lesser-moved.result l.look-sight.result.fresh l.look-sight.result.heavy
+    l.weight_of-first.result l.weight_of-second.result l.min-moved.result l.look-sight.result.fresh l.look-sight.result.heavy
 known l =
     let looked = l.look-sight.ensures in
     let g = l.args in
     seen g.t.now l.requires.0 g.v g.i g.j l.requires.2 g.shape l.requires.1 _ _ _ _ _ _ _ _ _ _
-    l.weight_of-first.ensures.0 l.weight_of-second.ensures.0 l.lesser-moved.ensures
+    l.weight_of-first.ensures.0 l.weight_of-second.ensures.0 l.min-moved.ensures
     l.clause_of.ensures.0 l.clause_of-2.ensures.0
     l.conclude-kept.ensures.0 l.conclude-kept.ensures.1 l.conclude-kept.ensures.2
     looked.0 looked.1 looked.2
@@ -68,12 +75,24 @@ overflow_sub-left-2 c = let b = limits (goal.at.overflow_sub-left-2 c).Start in 
 pub room-requires : goal.room-requires
 room-requires c = let b = limits (goal.at.room-requires c).Start in omega arith
 
-pub refusal_of-requires : goal.refusal_of-requires
-refusal_of-requires c =
-    let b = limits (goal.at.refusal_of-requires c).Start in
+pub allow-requires : goal.allow-requires
+allow-requires c =
+    let b = limits (goal.at.allow-requires c).Start in
     omega (arith, c.look-sight.ensures.3, c.conclude-kept.ensures.1)
 
-pub returns : goal.returns
-returns c =
-    surveyed c.args.t.now c.requires.0 (known (goal.at.returns c).After-look-sight) c.args.shape c.requires.1 _ _ _ _
-    c.used.ensures.0 c.used-2.ensures.0 c.room.ensures.0 c.refusal_of.ensures
+-- the number that the tests give is that of the finished step
+verdict : (a : After-allow) → refusal_in a.allow.result ≡ refusal_of (allowed (capacity_of a.args.t.now) (record { variable = a.args.v; first = a.args.i; second = a.args.j })
+    (resolve (domains a.args.t.now) (record { variable = a.args.v; first = a.args.i; second = a.args.j }) (table_rows a.args.t.now)))
+verdict a =
+    judged a.args.t.now a.requires.0 (known a) a.args.shape a.requires.1 _ _ _ _
+    a.used.ensures.0 a.used-2.ensures.0 a.room.ensures.0 a.allow.ensures
+
+pub returns-in_err-allow-clause-refused : goal.returns-in_err-allow-clause-refused
+returns-in_err-allow-clause-refused c =
+    let p = err_from_is_err_and c.from_residual.result c.from_residual.ensures.1 in
+    rw (p.1, p.2) (refused c.args.t.now _ _ (sym (ap refusal_in c.in_err-allow.was) ∙ verdict (goal.at.returns-in_err-allow-clause-refused c).After-allow))
+
+pub returns-clause-planned : goal.returns-clause-planned
+returns-clause-planned c =
+    planned (known (goal.at.returns-clause-planned c).After-allow)
+    (sym (ap refusal_in c.in_ok-allow.was) ∙ verdict (goal.at.returns-clause-planned c).After-allow)
