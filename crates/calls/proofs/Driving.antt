@@ -12,7 +12,7 @@ use lib.Seq.{length-take-le, drop-cons, drop-drop}
 use lib.Dec.{eqb}
 use borrow.Author.Tests.{eq-eqb, ne_eqb}
 use Rattle.words.specs.Layout.{kind_of, payload_of}
-use Rattle.fields.specs.declared.Answer.{Answer}
+use Rattle.fields.specs.Answers.{Answer}
 use Rattle.encoding.specs.Calls.{EncodeReturned, encode_call}
 use Rattle.checker.proofs.Encoded.{GoodEncoding, coded, encode_refused}
 use Rattle.calls.specs.Calls.{Call, step_asked, run_asked, plan_asked, in_place, after_calls}

@@ -14,11 +14,11 @@ use Rattle.table.specs.Raws.{standard_form}
 use Rattle.table.specs.Layout.{capacity, table_words_in}
 use Rattle.table.specs.Meaning.{own_rows_in, own_rows}
 use Rattle.table.specs.Valid.{valid_table_in, valid_table}
-use Rattle.table.proofs.TableLaws.{TableLaws}
+use Rattle.table.specs.TableLaws.{TableLaws}
 use Rattle.table.proofs.RawRows.{table_laws}
 use Rattle.table.proofs.Own.{Held, valid_is_canonical_in}
 use Rattle.encoding.specs.Calls.{encoded_rows}
-use Rattle.fiveform.specs.Five.{five_form}
+use Rattle.table.specs.Five.{five_form}
 use Rattle.conversion.specs.Calls.{ConvertReturned, to_six_call, to_five_call}
 use Rattle.conversion.specs.Theorems.{Same}
 use Rattle.conversion.proofs.Theorems.{good_of, conversions}

@@ -8,20 +8,15 @@ use mathlib.Core.List.{List, [], ◌∷◌, ◌++◌, append-nil}
 use lib.ListN.{length, take, drop, set, take-append-drop, length-append, length-take, length-drop, length-set}
 use lib.Seq.{length-take-le, take-append_seam, drop-append_seam, take-append-add, drop-append-add, take-append-le, drop-append-le, take-suc-set, drop-set-lt, drop-drop}
 use borrow.Author.Tests.{eq-eqb, ne_eqb}
-use denote.Enum.Declared.{tag_of}
-use types.Run.{OneOf, miss}
-use Rattle.words.specs.Layout.{payload_of}
 use Rattle.table.specs.Meaning.{table_sizes, own_rows, capacity_of}
 use Rattle.table.specs.Valid.{valid_table}
-use Rattle.resolution.specs.contracts.StepAnswer.{the_type}
-use Rattle.resolution.specs.declared.StepAnswer.{StepAnswer}
-use Rattle.resolution.specs.declared.StepAnswer.TheVariants.{Refused, Done, Stepped}
-use Rattle.resolution.specs.declared.RunAnswer.{RunAnswer}
+use Rattle.resolution.specs.Answers.{StepAnswer, Stepped}
+use Rattle.resolution.specs.Outcomes.{RunAnswer}
 use Rattle.resolution.specs.Run.{run_rows}
 use Rattle.resolution.specs.Calls.{StepReturned, step_call, RunReturned, run_call}
 use Rattle.assignment.specs.Calls.{PlanReturned, plan_call}
 use Rattle.calls.specs.Calls.{run_asked, plan_asked, words_of_step, after_call}
-use Rattle.calls.specs.Driver.{limit_of, slice_of, target_after}
+use Rattle.calls.specs.Driver.{target_after}
 use Rattle.calls.specs.Slices.{state_in, step_in, Leaves}
 
 -- ---- a front that may be longer than the list
@@ -45,13 +40,6 @@ unchanged t out made fits = record { state = refl; grown = omega arith; room = f
 
 -- ---- a step call
 
--- the arm for every answer but a step word
-no_word : (a : StepAnswer) → OneOf (0 ∷ 1 ∷ []) (tag_of the_type a) → words_of_step a ≡ []
-unfolding words_of_step
-no_word (Refused k) h = refl
-no_word Done h = refl
-no_word (Stepped w) h = absurd (miss (0 ∷ 1 ∷ []) 2 tt h)
-
 module _ (t out : List ℕ) (made : ℕ) (fits : made ≤ length out) where
   -- no place is left
   pub step-full : made ≡ length out
@@ -66,11 +54,11 @@ module _ (t out : List ℕ) (made : ℕ) (fits : made ≤ length out) where
     table : t' ≡ (step_call t).table
     table = ap (λ r. r.table) called
 
-    pub step-none : OneOf (0 ∷ 1 ∷ []) (tag_of the_type a)
+    pub step-none : words_of_step a ≡ []
         → Leaves out made (step_in t out made) t' out made
     unfolding after_call
     step-none h =
-        let none : words_of_step (step_call t).answer ≡ [] = rw (← answered) (no_word a h) in
+        let none : words_of_step (step_call t).answer ≡ [] = rw (← answered) h in
         rw (ne_eqb made (length out) left, none, append-nil, ← table) (unchanged t' out made fits)
 
     pub step_made : (w : ℕ) → a ≡ Stepped w
@@ -123,38 +111,37 @@ run_few t limit slice ys e long =
     = sym long ∙ ap length (e ∙ f.left) ∙ simp (length-append, length-drop) in
     omega (arith, f.steps)
 
-module _ (t out : List ℕ) (made : ℕ) (fits : made ≤ length out) (w p l : ℕ) (payload : p ≡ payload_of w) (lent : l ≡ min (p % 16384) (length out - made)) where
+module _ (t out : List ℕ) (made : ℕ) (fits : made ≤ length out) (limit room l : ℕ) (lent : l ≡ min room (length out - made)) where
   -- the step words of a run in the part of l words from made on have a place
   pub run_room : (a : RunAnswer) (t' ys : List ℕ)
-      → ◌≡◌ {A = RunReturned} (record { answer = a; table = t'; slice = ys }) (run_call t (p / 16384) (take (made + l - made) (drop made out)))
+      → ◌≡◌ {A = RunReturned} (record { answer = a; table = t'; slice = ys }) (run_call t limit (take (made + l - made) (drop made out)))
       → length ys ≡ length (take (made + l - made) (drop made out)) → made + a.steps ≤ length out
   run_room a t' ys called long =
-      let ea : a ≡ (run_call t (p / 16384) (take (made + l - made) (drop made out))).answer = ap (λ r. r.answer) called in
-      let ey : ys ≡ (run_call t (p / 16384) (take (made + l - made) (drop made out))).slice = ap (λ r. r.slice) called in
-      let few : a.steps ≤ length (take (made + l - made) (drop made out)) = rw ea (run_few t (p / 16384) (take (made + l - made) (drop made out)) ys ey long) in
+      let ea : a ≡ (run_call t limit (take (made + l - made) (drop made out))).answer = ap (λ r. r.answer) called in
+      let ey : ys ≡ (run_call t limit (take (made + l - made) (drop made out))).slice = ap (λ r. r.slice) called in
+      let few : a.steps ≤ length (take (made + l - made) (drop made out)) = rw ea (run_few t limit (take (made + l - made) (drop made out)) ys ey long) in
       omega (arith, simp (length-take, length-drop) at few)
 
   -- that part put back as the run left it
   pub run_made : (a : RunAnswer) (t' ys : List ℕ)
-      → ◌≡◌ {A = RunReturned} (record { answer = a; table = t'; slice = ys }) (run_call t (p / 16384) (take (made + l - made) (drop made out)))
+      → ◌≡◌ {A = RunReturned} (record { answer = a; table = t'; slice = ys }) (run_call t limit (take (made + l - made) (drop made out)))
       → length ys ≡ length (take (made + l - made) (drop made out))
-      → Leaves out made (after_call (state_in t out made) (run_asked (limit_of w) (take (slice_of w) (drop made out)))) t'
+      → Leaves out made (after_call (state_in t out made) (run_asked limit (take room (drop made out)))) t'
       (take made out ++ (ys ++ drop (made + l - made) (drop made out))) (made + a.steps)
   unfolding after_call
   run_made a t' ys called long =
-      let limit = p / 16384 in
       let n = made + l - made in
       let free = drop made out in
       let ea : a ≡ (run_call t limit (take n free)).answer = ap (λ r. r.answer) called in
       let et : t' ≡ (run_call t limit (take n free)).table = ap (λ r. r.table) called in
       let ey : ys ≡ (run_call t limit (take n free)).slice = ap (λ r. r.slice) called in
-      let size : n ≡ min (p % 16384) (length free) = rw (length-drop made out) (omega arith) in
-      let same : take n free ≡ take (p % 16384) free = ap (λ m. take m free) size ∙ take_min (p % 16384) free in
+      let size : n ≡ min room (length free) = rw (length-drop made out) (omega arith) in
+      let same : take n free ≡ take room free = ap (λ m. take m free) size ∙ take_min room free in
       let few : a.steps ≤ length (take n free) = rw ea (run_few t limit (take n free) ys ey long) in
       let some : a.steps ≤ length ys = rw long few in
       let rest : drop a.steps ys ≡ drop a.steps (take n free) = rw (ea, ey) (run_rest t limit (take n free)) in
       let front : length (take made out) ≡ made = length-take-le made out fits in
-      rw (← payload, ← same, ← ea, ← et, ← ey)
+      rw (← same, ← ea, ← et, ← ey)
       (record {
         state = ap (λ ws. record { table = t'; derivation = ws }) (sym (behind_taken (take made out) ys (drop n free) made a.steps front some));
         grown = omega arith;
@@ -166,11 +153,11 @@ module _ (t out : List ℕ) (made : ℕ) (fits : made ≤ length out) (w p l : �
 
 -- ---- a plan call
 
-pub plan_made : (t target : List ℕ) (w p l : ℕ) → p ≡ payload_of w → l ≡ min p (length target) → (number : ℕ) (ys : List ℕ)
-    → ◌≡◌ {A = PlanReturned} (record { number = number; target = ys }) (plan_call t (take l target)) → ys ++ drop l target ≡ target_after t target (plan_asked (take (payload_of w) target))
+pub plan_made : (t target : List ℕ) (p l : ℕ) → l ≡ min p (length target) → (number : ℕ) (ys : List ℕ)
+    → ◌≡◌ {A = PlanReturned} (record { number = number; target = ys }) (plan_call t (take l target)) → ys ++ drop l target ≡ target_after t target (plan_asked (take p target))
 unfolding target_after
-plan_made t target w p l payload lent number ys called =
+plan_made t target p l lent number ys called =
     let e : ys ≡ (plan_call t (take l target)).target = ap (λ r. r.target) called in
     let same : take l target ≡ take p target = ap (λ m. take m target) lent ∙ take_min p target in
     let long : length (take p target) ≡ l = length-take p target ∙ sym lent in
-    rw (← payload, long, ← same, e)
+    rw (long, ← same, e)

@@ -16,7 +16,7 @@ use Rattle.wcsp.proofs.NextPair.{next-permitted}
 use Rattle.fields.specs.Entries.{Entries}
 use Rattle.stepping.specs.Step.{Stepping, refusing, steps_to, pair_word}
 use Rattle.resolution.specs.Step.{on_pair, one_step}
-use Rattle.resolution.specs.declared.Outcome.TheVariants.{Done, Refused}
+use Rattle.resolution.specs.Outcomes.{Done, Refused}
 use Rattle.resolution.specs.Run.{Ran, after, at_limit, run_rows}
 use Rattle.resolution.specs.Numbers.{outcome_number, outcome_field}
 use Rattle.resolution.proofs.Stepped.{no_step}

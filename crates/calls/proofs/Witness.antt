@@ -23,7 +23,7 @@ use Rattle.table.specs.Layout.{table_words_in, capacity_in}
 use Rattle.table.specs.Meaning.{table_rows_in, own_rows_in, table_sizes, domains}
 use Rattle.table.specs.Valid.{valid_table_in, valid_signs, sign_kinds, has_signs}
 use Rattle.encoding.specs.Calls.{encode_call}
-use Rattle.fiveform.specs.Five.{five_at, five_weighs, five_row_of}
+use Rattle.table.specs.Five.{five_at, five_weighs, five_row_of}
 use Rattle.conversion.specs.Calls.{convert_call}
 use Rattle.stepping.specs.Step.{allowed}
 use Rattle.resolution.specs.Step.{one_step}

@@ -5,8 +5,7 @@ use Rattle.wcsp.specs.Row.{Row}
 use Rattle.wcsp.specs.Resolve.{Pair, next_pair, resolve}
 use Rattle.encoding.specs.Calls.{encode_call}
 use Rattle.stepping.specs.Step.{pair_word}
-use Rattle.resolution.specs.declared.StepAnswer.{StepAnswer}
-use Rattle.resolution.specs.declared.StepAnswer.TheVariants.{Refused, Done, Stepped}
+use Rattle.resolution.specs.Answers.{StepAnswer, Refused, Done, Stepped}
 use Rattle.resolution.specs.Calls.{step_call, run_call}
 use Rattle.conversion.specs.Calls.{ConvertReturned, to_six_call, to_five_call}
 

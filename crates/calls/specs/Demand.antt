@@ -16,7 +16,7 @@ use Rattle.table.specs.Raws.{standard_form}
 use Rattle.table.specs.Layout.{rows_at, table_words_in, table_words, capacity}
 use Rattle.table.specs.Meaning.{table_sizes, own_rows_in, own_rows}
 use Rattle.table.specs.Valid.{valid_table_in, valid_table}
-use Rattle.fiveform.specs.Five.{five_form}
+use Rattle.table.specs.Five.{five_form}
 use Rattle.conversion.specs.Calls.{to_six_call}
 use Rattle.encoding.specs.Calls.{encoded_rows, encode_call}
 use Rattle.stepping.specs.Step.{pair_word}

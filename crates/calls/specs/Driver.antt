@@ -1,12 +1,13 @@
 -- A list of calls as words, and what making them one after the other comes to. A call word has its kind in the top four bits: 0 a step; 1 a
 -- run, its limit in bits 14-27 and the length of its slice in bits 0-13; 2 a plan, the length of its target in bits 0-27. Others ask for nothing.
-use Rattle.std.specs.Prelude.{ℕ, ◌/◌, ◌%◌, ◌≡◌, cond, length, take, drop, eqb}
+use Rattle.std.specs.Prelude.{ℕ, Result, Ok, Err, ◌/◌, ◌%◌, ◌≡◌, cond, length, take, drop, eqb}
 use mathlib.Core.List.{List, [], ◌∷◌, ◌++◌, Option-to_list}
 use Rattle.std.proofs.Math.Option.{Option, none, some}
 use Rattle.words.specs.Layout.{kind_of, payload_of}
 use Rattle.encoding.specs.Calls.{encode_call}
 use Rattle.assignment.specs.Calls.{plan_call}
-use Rattle.calls.specs.declared.Driven.{Driven}
+use Rattle.fields.specs.declared.refusals.Refusal.{Refusal}
+use Rattle.fields.specs.Numbers.{number_of}
 use Rattle.calls.specs.Calls.{Call, step_asked, run_asked, plan_asked, six_asked, five_asked, State, after_call, after_calls, started}
 use Rattle.calls.specs.Demand.{UpheldFrom}
 
@@ -64,6 +65,16 @@ DrivesCalls = (out : List ℕ) (d : Driving) (ws : List ℕ) → (drive_words ou
 -- the slice for step words with a derivation in front
 abbrev pub written : List ℕ → List ℕ → List ℕ
 written out ws = ws ++ drop (length ws) out
+
+-- the number of the encoding, and how many steps the calls made
+pub record Driven : Type 0 where
+  pub number : ℕ
+  pub steps : ℕ
+
+-- what the driver's result says
+abbrev pub driven_as : Result ℕ Refusal → Driven
+driven_as (Ok steps) = record { number = 0; steps = steps }
+driven_as (Err r) = record { number = number_of r; steps = 0 }
 
 -- an answer, the table, the slice of step words and the target as the call returns
 pub record DriveReturned : Type 0 where

@@ -10,10 +10,10 @@ use Rattle.fields.specs.Answers.{refused, good}
 use Rattle.input.specs.Instance.{instance_fault, sizes_of, entries_of}
 use Rattle.table.specs.Meaning.{own_rows}
 use Rattle.table.specs.Valid.{valid_table_in, valid_table}
-use Rattle.fiveform.specs.Five.{five_form}
+use Rattle.table.specs.Five.{five_form}
 use Rattle.conversion.specs.Calls.{to_six_call, to_five_call}
 use Rattle.encoding.specs.Calls.{encode_call}
-use Rattle.resolution.specs.declared.StepAnswer.TheVariants.{Done}
+use Rattle.resolution.specs.Answers.{Done}
 use Rattle.resolution.specs.Calls.{step_call}
 use Rattle.assignment.specs.Calls.{plan_call}
 use Rattle.completion.specs.Calls.{complete_call}

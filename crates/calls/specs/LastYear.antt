@@ -3,10 +3,10 @@ use Rattle.std.specs.Prelude.{ℕ, ◌<◌, ◌≡◌, true, List}
 use Rattle.fields.specs.Answers.{refused}
 use Rattle.table.specs.Meaning.{row_count}
 use Rattle.table.specs.Valid.{valid_table_in}
-use Rattle.fiveform.specs.Five.{five_form}
+use Rattle.table.specs.Five.{five_form}
 use Rattle.conversion.specs.Calls.{to_five_call}
-use Rattle.resolution.specs.declared.StepAnswer.TheVariants.{Refused}
-use Rattle.resolution.specs.declared.Outcome.{Outcome}
+use Rattle.resolution.specs.Answers.{Refused}
+use Rattle.resolution.specs.Outcomes.{Outcome}
 use Rattle.resolution.specs.Calls.{step_call, run_call}
 use Rattle.assignment.specs.Calls.{plan_call}
 use Rattle.completion.specs.Calls.{complete_call}

@@ -7,6 +7,7 @@ pub mod Demand
 pub mod Derivation
 pub mod Driver
 pub mod Slices
+pub mod Asks
 pub mod WordCases
 pub mod Witness
 pub mod Empty

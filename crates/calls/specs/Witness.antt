@@ -15,13 +15,13 @@ use Rattle.table.specs.Layout.{rows_at}
 use Rattle.table.specs.Meaning.{table_sizes, row_count, own_rows_in, own_rows}
 use Rattle.table.specs.Valid.{valid_table_in, valid_table}
 use Rattle.encoding.specs.Calls.{encoded_rows, encode_call}
-use Rattle.fiveform.specs.Five.{five_form}
+use Rattle.table.specs.Five.{five_form}
 use Rattle.resolution.specs.Calls.{RunReturned, run_call}
 use Rattle.resolution.specs.Numbers.{run_number, run_fields}
 use Rattle.assignment.specs.Calls.{plan_call, table_assignment}
 use Rattle.assignment.specs.Order.{is_left}
 use Rattle.completion.specs.Calls.{complete_call}
-use Rattle.checker.specs.declared.CheckAnswer.{CheckAnswer}
+use Rattle.checker.specs.Answer.{CheckAnswer}
 use Rattle.checker.specs.Calls.{check_call}
 use Rattle.calls.specs.Calls.{Call, step_asked, run_asked, plan_asked, six_asked, five_asked, State, started, after_calls}
 use Rattle.calls.specs.Derivation.{needs}

@@ -3,7 +3,7 @@ use Rattle.std.specs.Prelude.{ℕ, ◌+◌, ◌*◌, ◌≡◌, List, [], ◌∷
 use Rattle.std.proofs.Math.Option.{Option, none, some}
 use Rattle.wcsp.specs.Row.{Row, ◌weighted◌}
 use Rattle.words.specs.Layout.{head_word, size_word, binding_word, cost_word}
-use Rattle.fields.specs.declared.Answer.{Answer}
+use Rattle.fields.specs.Answers.{Answer}
 use Rattle.fields.specs.Answers.{good}
 use Rattle.input.specs.Instance.{sizes_of}
 use Rattle.rows.specs.Raw.{row_width}
@@ -13,7 +13,7 @@ use Rattle.encoding.specs.Calls.{encode_call}
 use Rattle.resolution.specs.Calls.{RunReturned, run_call}
 use Rattle.resolution.specs.Numbers.{run_number, run_fields}
 use Rattle.assignment.specs.Calls.{PlanReturned, plan_call}
-use Rattle.checker.specs.declared.CheckAnswer.{CheckAnswer}
+use Rattle.checker.specs.Answer.{CheckAnswer}
 use Rattle.checker.specs.Calls.{check_call}
 
 -- what a case gives: the words of an instance, encoded in a slice of so many words, or a table's words as they stand

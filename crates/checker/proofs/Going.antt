@@ -1,10 +1,12 @@
 -- What a replay keeps from word to word: a valid table of the same sizes and length, and the replay that is still to go.
 use Prim.Native.Nat.{ℕ, suc, ◌+◌, ◌<◌, ◌≤◌}
 use native.Mathlib.Numerals.{add-one}
+use native.Mathlib.Omega.{arith}
 use mathlib.Core.Path.{◌≡◌, refl, sym, ap, ap₂, ◌∙◌}
 use mathlib.Core.Bool.{true}
 use mathlib.Core.List.{List}
 use mathlib.Core.Option.{none, some}
+use Rattle.std.specs.Prelude.{Option, Some, None}
 use lib.ListN.{length, get_or, drop, drop_of_length-le}
 use lib.Seq.{drop-cons}
 use Rattle.wcsp.specs.Row.{Row}
@@ -16,16 +18,12 @@ use Rattle.table.specs.Meaning.{variables_of, row_count, table_sizes, table_rows
 use Rattle.table.specs.Valid.{valid_table}
 use Rattle.table.specs.Check.{full_clause, shape_of}
 use Rattle.table.proofs.Canonical.{twelve_is_canonical}
-use Rattle.table.proofs.Finishing.{valid_count}
-use Rattle.stepping.specs.declared.Advanced.{Advanced}
-use Rattle.stepping.specs.declared.Advanced.TheVariants.{Made, Refused}
 use Rattle.stepping.specs.Step.{refusing, steps_to, allowed, with_rows}
-use Rattle.stepping.specs.Advance.{AdvanceReturned, advance_call}
+use Rattle.stepping.specs.Advance.{Advanced, Made, Refused, AdvanceReturned, advance_call}
 use Rattle.stepping.proofs.Answers.{advance_made, advance_refused}
 use Rattle.stepping.proofs.Following.{following}
-use Rattle.checker.specs.declared.ReplayEnd.{ReplayEnd}
-use Rattle.checker.specs.declared.Named.{Named}
-use Rattle.checker.specs.declared.Named.TheVariants.{Pair as Of, Nothing}
+use Rattle.checker.specs.Answer.{CheckAnswer}
+use Rattle.checker.specs.declared.Pair.{Pair as Named}
 use Rattle.checker.specs.Replay.{named_pair, replay_on, replay_word, Replayed, replay_next, replay}
 use Rattle.checker.specs.Twelve.{replay_call}
 use Rattle.checker.proofs.Replaying.{named_permitted}
@@ -70,7 +68,7 @@ going_start t ws shape v e =
     record { valid = v; long = refl; sizes = refl; variables = refl; domained = refl; counted = ap (λ s. s.count) e; goes = refl }
 
 -- what a replay must give back
-abbrev pub Replays : List ℕ → List ℕ → ReplayEnd → List ℕ → Type 0
+abbrev pub Replays : List ℕ → List ℕ → CheckAnswer → List ℕ → Type 0
 Replays t ws r t' = record { answer = r; table = t' } ≡ replay_call t ws
 
 module _ {t₀ ws t : List ℕ} {count k : ℕ} (g : Going t₀ ws t count k) where
@@ -79,48 +77,46 @@ module _ {t₀ ws t : List ℕ} {count k : ℕ} (g : Going t₀ ws t count k) wh
   whole = replay (domains t₀) (capacity_of t₀) (table_rows t₀) 0 ws
 
   gives : (number : ℕ) (t' : List ℕ) → whole ≡ record { number = number; steps = k; rows = table_rows t } → t' ≡ t
-      → Replays t₀ ws (record { number = number; steps = k; count = count }) t'
+      → Replays t₀ ws (record { number = number; steps = k }) t'
   gives number t' w e =
-      let c : count ≡ length (table_rows t) = g.counted ∙ sym (valid_count t g.valid) in
       let l : t' ≡ with_rows t₀ (table_rows t)
       = e ∙ (twelve_is_canonical t g.valid).words ∙ ap₂ (λ n s. table_words n s (table_rows t)) g.long g.sizes in
-      rw w (λ i. record { answer = record { number = number; steps = k; count = c i }; table = l i })
+      rw w (λ i. record { answer = record { number = number; steps = k }; table = l i })
 
   -- the shape that a turn's calls get
-  pub shaped : {n : ℕ} → n ≡ variables_of t₀ → {fulls : Clause} → fulls ≡ full_clause (domains t₀)
-      → ◌≡◌ {A = Shape} (record { variables = n; count = count; fulls = fulls }) (shape_of t)
-  shaped e f =
+  pub shaped : (shape : Shape) → shape.count ≡ count → shape.variables ≡ variables_of t₀ → shape.fulls ≡ full_clause (domains t₀) → shape ≡ shape_of t
+  shaped shape s e f =
       let n = e ∙ sym g.variables in
-      let c = g.counted in
+      let c = s ∙ g.counted in
       let u = f ∙ ap full_clause (sym g.domained) in
       λ i. record { variables = n i; count = c i; fulls = u i }
 
-  pub gives_end : length ws ≤ k → Replays t₀ ws (record { number = 0; steps = k; count = count }) t
-  gives_end h = gives 0 t (g.goes ∙ replay_ends (domains t) (capacity_of t) (table_rows t) k ws h) refl
+  pub gives_end : k ≡ length ws → Replays t₀ ws (record { number = 0; steps = length ws }) t
+  gives_end h = rw (← h) (gives 0 t (g.goes ∙ replay_ends (domains t) (capacity_of t) (table_rows t) k ws (omega arith)) refl)
 
-  module _ (h : k < length ws) {named : Named} (answer : Names t (get_or ws k 0) named) where
-    pub gives_unnamed : named ≡ Nothing → Replays t₀ ws (record { number = 6; steps = k; count = count }) t
+  module _ (h : k < length ws) {named : Option Named} (answer : Names t (get_or ws k 0) named) where
+    pub gives_unnamed : named ≡ None → Replays t₀ ws (record { number = 6; steps = k }) t
     gives_unnamed q = gives 6 t (g.goes ∙ replay_unnamed (domains t) (capacity_of t) (table_rows t) k ws h (nothing_named _ (sym q ∙ answer))) refl
 
-    module _ {v i j : ℕ} (q : named ≡ Of v i j) where
+    module _ {p : Named} (q : named ≡ Some p) where
       pr : Pair
-      pr = record { variable = v; first = i; second = j }
+      pr = record { variable = p.variable; first = p.first; second = p.second }
 
       is_named : named_pair (domains t) (table_rows t) (get_or ws k 0) ≡ some pr
       unfolding pr
-      is_named = pair_named _ v i j (sym q ∙ answer)
+      is_named = pair_named _ p (sym q ∙ answer)
 
-      pub may_step : MayResolve (domains t) (table_rows t) (record { variable = v; first = i; second = j })
+      pub may_step : MayResolve (domains t) (table_rows t) (record { variable = p.variable; first = p.first; second = p.second })
       unfolding pr
       may_step = named_permitted (domains t) (table_rows t) (get_or ws k 0) pr is_named
 
       module _ {advanced : Advanced} {t' : List ℕ}
-          (e : ◌≡◌ {A = AdvanceReturned} (record { answer = advanced; table = t' }) (advance_call t (record { variable = v; first = i; second = j }))) where
+          (e : ◌≡◌ {A = AdvanceReturned} (record { answer = advanced; table = t' }) (advance_call t (record { variable = p.variable; first = p.first; second = p.second }))) where
         pub unmoved : {number : ℕ} → advanced ≡ Refused number → t' ≡ t
         unfolding pr
         unmoved {number} a = (advance_refused t pr advanced t' e number a).1
 
-        pub gives_refused : {number : ℕ} → advanced ≡ Refused number → Replays t₀ ws (record { number = number; steps = k; count = count }) t'
+        pub gives_refused : {number : ℕ} → advanced ≡ Refused number → Replays t₀ ws (record { number = number; steps = k }) t'
         unfolding pr
         gives_refused {number} a =
             let r = advance_refused t pr advanced t' e number a in

@@ -7,7 +7,7 @@ use mathlib.Core.List.{List}
 use lib.Dec.{eqb}
 use borrow.Author.Tests.{eq-eqb, ne_eqb, eqb-true, eqb-false}
 use Rattle.wcsp.specs.Entry.{cost}
-use Rattle.fields.specs.declared.Answer.{Answer}
+use Rattle.fields.specs.Answers.{Answer}
 use Rattle.fields.specs.Answers.{refused, good}
 use Rattle.fields.specs.Assignment.{is_assignment}
 use Rattle.cost.specs.Calls.{cost_call}
@@ -40,9 +40,9 @@ module _ (inst plan : List ℕ) (accepted : instance_fault inst ≡ 0) (priced :
     abbrev Judges : ℕ → Type 0
     Judges number = number ≡ cond (claim_holds inst plan claimed weight) 0 7
 
-    pub claim_unplanned : (priced.number ≡ 0 → ⊥) → Judges priced.number
+    pub claim_unplanned : (priced.number ≡ 0 → ⊥) → Judges 7
     unfolding claim_holds
-    claim_unplanned n = let (none, seven) = no_plan n in rw (none, seven)
+    claim_unplanned n = rw ((no_plan n).0)
 
     pub claim_other_cost : (claimed ≡ priced.value → ⊥) → Judges 7
     unfolding claim_holds

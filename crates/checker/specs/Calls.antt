@@ -6,7 +6,7 @@ use Rattle.fields.specs.Assignment.{is_assignment}
 use Rattle.input.specs.Instance.{sizes_of, entries_of}
 use Rattle.table.specs.Layout.{capacity, table_words}
 use Rattle.encoding.specs.Calls.{encoded_rows, encode_call}
-use Rattle.checker.specs.declared.CheckAnswer.{CheckAnswer}
+use Rattle.checker.specs.Answer.{CheckAnswer}
 use Rattle.checker.specs.Replay.{Replayed, replay}
 
 -- an answer and the work table as the call returns
