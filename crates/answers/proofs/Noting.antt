@@ -1,33 +1,32 @@
--- Fields noted in a slice one behind the other: each is set at its place, or left out where the slice ends before it.
-use Prim.Native.Nat.{ℕ, ◌<◌, ◌≤◌}
-use native.Mathlib.Omega.{arith}
-use mathlib.Core.Path.{◌≡◌, refl, sym, ap, ◌∙◌}
-use mathlib.Core.List.{List, [], ◌∷◌, ◌++◌}
-use lib.ListN.{length, set}
+-- Fields that are noted one after the other: each is set at its place, or left out where the slice ends before it.
+use Rattle.std.proofs.Common.{◌≡◌, ℕ, ◌<◌, ◌≤◌, ◌+◌, zero, suc, List, [], ◌∷◌, length, take, take_all, get_or, set, refl, ap, sym, add-one, arith}
 use Rattle.answers.specs.Noted.{noted}
 
-pub noted-none : (xs : List ℕ) → noted xs [] ≡ xs
+pub noted_none : (xs : List ℕ) → noted xs [] ≡ xs
 unfolding noted
-noted-none [] = refl
-noted-none (x ∷ xs) = refl
+noted_none [] = refl
+noted_none (x ∷ xs) = refl
 
--- a further field, with a place or without one
-next-set : (xs vs : List ℕ) (b : ℕ) → length vs < length xs → set (noted xs vs) (length vs) b ≡ noted xs (vs ++ (b ∷ []))
+next_noted : (i : ℕ) (xs vs : List ℕ) → i < length vs → i < length xs → set (noted xs (take i vs)) i (get_or vs i 0) ≡ noted xs (take (suc i) vs)
 unfolding noted
-next-set [] vs b h = absurd (omega arith)
-next-set (x ∷ xs) [] b h = ap (λ (l : List ℕ). b ∷ l) (sym (noted-none xs))
-next-set (x ∷ xs) (v ∷ vs) b h = ap (λ (l : List ℕ). v ∷ l) (next-set xs vs b (omega arith))
+next_noted i [] vs h h2 = absurd (omega arith)
+next_noted i (x ∷ xs) [] h h2 = absurd (omega arith)
+next_noted zero (x ∷ xs) (v ∷ vs) h h2 = ap (λ l. v ∷ l) (sym (noted_none xs))
+next_noted (suc i) (x ∷ xs) (v ∷ vs) h h2 = ap (λ l. v ∷ l) (next_noted i xs vs (omega arith) (omega arith))
 
-next_left : (xs vs : List ℕ) (b : ℕ) → length xs ≤ length vs → noted xs vs ≡ noted xs (vs ++ (b ∷ []))
+pub noted_step : (i : ℕ) (xs vs : List ℕ) → i < length vs → i < length xs → set (noted xs (take i vs)) i (get_or vs i 0) ≡ noted xs (take (i + 1) vs)
+noted_step i xs vs h h2 = rw (add-one i) (next_noted i xs vs h h2)
+
+past_noted : (i : ℕ) (xs vs : List ℕ) → length xs ≤ i → noted xs (take i vs) ≡ noted xs (take (suc i) vs)
 unfolding noted
-next_left [] vs b h = refl
-next_left (x ∷ xs) [] b h = absurd (omega arith)
-next_left (x ∷ xs) (v ∷ vs) b h = ap (λ (l : List ℕ). v ∷ l) (next_left xs vs b (omega arith))
+past_noted i [] vs h = refl
+past_noted zero (x ∷ xs) [] h = refl
+past_noted (suc i) (x ∷ xs) [] h = refl
+past_noted zero (x ∷ xs) (v ∷ vs) h = absurd (omega arith)
+past_noted (suc i) (x ∷ xs) (v ∷ vs) h = ap (λ l. v ∷ l) (past_noted i xs vs (omega arith))
 
--- the same of the slice as a call left it
-module _ (xs ys vs : List ℕ) (b : ℕ) (e : ys ≡ noted xs vs) where
-  pub noted-next : length vs < length xs → set ys (length vs) b ≡ noted xs (vs ++ (b ∷ []))
-  noted-next h = rw e (next-set xs vs b h)
+pub noted_past : (i : ℕ) (xs vs : List ℕ) → length xs ≤ i → noted xs (take i vs) ≡ noted xs (take (i + 1) vs)
+noted_past i xs vs h = rw (add-one i) (past_noted i xs vs h)
 
-  pub noted-full : length xs ≤ length vs → ys ≡ noted xs (vs ++ (b ∷ []))
-  noted-full h = e ∙ next_left xs vs b h
+pub noted_all : (n : ℕ) (xs vs : List ℕ) → n ≡ length vs → noted xs (take n vs) ≡ noted xs vs
+noted_all n xs vs h = ap (noted xs) (take_all n vs (omega arith))

@@ -10,7 +10,7 @@ use Rattle.input.proofs.Acceptance.{faultless_is_accepted}
 use Rattle.making.specs.Made.{made_words}
 use Rattle.making.proofs.Reading.{made_accepted}
 use Rattle.littleendian.specs.Words.{words_in}
-use Rattle.planning.specs.declared.Solved.{Solved}
+use Rattle.planning.specs.Values.{Solved}
 use Rattle.planning.specs.Solving.{refused_solved, solved_of}
 use Rattle.planning.specs.Theorems.{SheetMeans, faulty, long_instance, many_rows, none_allowed, planned, paused, full, Means, too_long, no_words, of_words}
 use Rattle.planning.proofs.Meaning.{solved_means}

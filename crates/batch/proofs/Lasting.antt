@@ -12,7 +12,7 @@ use borrow.Author.Tests.{lt-ltb, le-ltb}
 use Rattle.wcsp.proofs.Lists.{and_right}
 use Rattle.fields.specs.Entries.{Each, nil_each, cons_each}
 use Rattle.littleendian.proofs.Words.{word_of_four}
-use Rattle.planning.specs.declared.Solved.{Solved}
+use Rattle.planning.specs.Values.{Solved}
 use Rattle.planning.specs.Solving.{solved_of, refused_solved}
 use Rattle.cutting.specs.declared.Phase.{Phase}
 use Rattle.cutting.specs.Cutting.{longest_sheet, Cut, byte_cut, takes_byte}

@@ -12,7 +12,7 @@ use lib.Dec.{ltb, leb}
 use borrow.Author.Tests.{ne_eqb, lt-ltb, le-ltb, ltb-true, ltb-false, le-leb}
 use Rattle.wcsp.proofs.Lists.{and_left, and_right}
 use Rattle.littleendian.specs.Words.{word_at}
-use Rattle.planning.specs.declared.Solved.{Solved}
+use Rattle.planning.specs.Values.{Solved}
 use Rattle.cutting.specs.declared.Phase.{Phase}
 use Rattle.cutting.specs.Cutting.{longest_sheet, Cut, byte_cut, takes_byte}
 use Rattle.cutting.specs.Cutting as cutting

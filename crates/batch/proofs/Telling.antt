@@ -13,7 +13,7 @@ use Rattle.fields.specs.Entries.{Each, nil_each, cons_each}
 use Rattle.input.specs.Instance.{sizes_of, entries_of}
 use Rattle.making.specs.Made.{made_words}
 use Rattle.littleendian.specs.Words.{word_at, words_in}
-use Rattle.planning.specs.declared.Solved.{Solved}
+use Rattle.planning.specs.Values.{Solved}
 use Rattle.planning.specs.Solving.{solved_of}
 use Rattle.planning.specs.Theorems.{Held, SheetMeans, faulty, long_instance, many_rows, none_allowed, planned, paused, full, Means, too_long, no_words, of_words}
 use Rattle.planning.proofs.Meaning.{solved_means}

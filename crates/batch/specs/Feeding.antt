@@ -1,6 +1,6 @@
 -- A season's bytes as they come: the phase and the figures that they lead to, with a buffer for one sheet.
 use Rattle.std.specs.Prelude.{ℕ, zero, suc, Bool, true, false, cond, ◌&&◌, List, [], ◌∷◌, length, take, ltb}
-use Rattle.planning.specs.declared.Solved.{Solved}
+use Rattle.planning.specs.Values.{Solved}
 use Rattle.planning.specs.Solving.{refused_solved, solved_of}
 use Rattle.cutting.specs.declared.Phase.{Phase}
 use Rattle.cutting.specs.declared.Found.{Found}

@@ -2,8 +2,7 @@
 use Rattle.std.specs.Prelude.{ℕ, zero, suc, ◌*◌, cond, List, [], ◌∷◌, map, length, take, drop, eqb, ltb}
 use Rattle.fields.specs.Limits.{between}
 use Rattle.littleendian.specs.Words.{word_at}
-use Rattle.planning.specs.declared.Ending.{Ending}
-use Rattle.planning.specs.declared.Solved.{Solved}
+use Rattle.planning.specs.Values.{Ending, Solved}
 use Rattle.planning.specs.Solving.{refused_solved, solved_of}
 use Rattle.cutting.specs.Cutting.{longest_sheet}
 use Rattle.figures.specs.declared.Figures.{Figures}

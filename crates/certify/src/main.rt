@@ -7,7 +7,7 @@ ghost use Rattle.verifying.specs.Verified.{certificate_room};
 use std::fs::OpenOptions;
 use std::io::{Print, Result, Write};
 
-// Writes the bytes to descriptor 3, which is opened anew by its name. Where there are none it is not opened, so it need not be there.
+/// Writes the bytes to descriptor 3, which is opened anew by its name. Where there are none it is not opened, so it need not be there.
 fn put_certificate(rt: HostRuntime, bytes: &[u8]) -> Result<()> {
     if bytes.len() == 0 {
         return Ok(());
@@ -17,19 +17,17 @@ fn put_certificate(rt: HostRuntime, bytes: &[u8]) -> Result<()> {
     how.open(&rt, "/dev/fd/3")?.write_all(bytes)
 }
 
-// Reads a byte more than the longest sheet, so that a longer one shows. Without a plan there is no byte for descriptor 3, and nothing is written there.
+/// Reads a byte more than the longest sheet, so that a longer one shows. Without a plan there is no byte for descriptor 3, and nothing is written there.
 fn answer(rt: HostRuntime, certificate: &mut [u8])
     requires { 4 * certificate_room ≤ length certificate.old }
 {
     let mut bytes = [0u8; 64001];
-    let input = reading::read_all(rt.stdin(), &mut bytes);
-    if input.failed {
+    let Ok(got) = reading::read_all(&mut rt.stdin(), &mut bytes) else {
         let _ = rt
             .stderr()
             .write_all(b"certify: the sheet cannot be read\n");
         return;
-    }
-    let got = input.length;
+    };
     let certified = certifying::certify(&bytes[..got], certificate);
     let long = certified.certificate;
     if put_certificate(rt, &certificate[..long]).is_err() {
@@ -38,9 +36,7 @@ fn answer(rt: HostRuntime, certificate: &mut [u8])
             .write_all(b"certify: the certificate cannot be written\n");
         return;
     }
-    let text = certified.text;
-    let length = certified.length;
-    if rt.write_all(&text[..length]).is_err() {
+    if rt.write_all(&certified.text).is_err() {
         let _ = rt
             .stderr()
             .write_all(b"certify: the plan cannot be written\n");

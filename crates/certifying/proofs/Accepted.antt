@@ -10,7 +10,7 @@ use Rattle.sheet.specs.Sheet.{sheet_sizes}
 use Rattle.littleendian.specs.Words.{words_in, bytes_of}
 use Rattle.littleendian.proofs.Writing.{length_bytes, written_reads_back}
 use Rattle.making.specs.Made.{made_words}
-use Rattle.planning.specs.declared.Ending.{Ending}
+use Rattle.planning.specs.Values.{Ending}
 use Rattle.planning.specs.Theorems.{ClaimAccepted}
 use Rattle.text.specs.Text.{line, variable_line, accepted_head}
 use Rattle.listing.specs.Listed.{metres_to, variable_lines, assignment_lines}

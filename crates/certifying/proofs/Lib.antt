@@ -1,5 +1,4 @@
 -- The laws of what is written for a sheet.
-mod Heads
 mod Writing
 mod Planned
 pub mod Accepted

@@ -1,11 +1,12 @@
 -- Bytes that came to a plan: what the checker accepts of them, and that a certificate takes it.
 use Prim.Native.Nat.{ℕ, ◌*◌, ◌%◌, ◌≤◌, ◌<◌}
 use native.Mathlib.Omega.{arith}
-use mathlib.Core.Path.{◌≡◌, refl, ap}
+use mathlib.Core.Path.{◌≡◌, refl, ap, ◌∙◌}
 use mathlib.Core.List.{List, [], ◌∷◌}
-use lib.ListN.{length, take, replicate, length-take, length-replicate}
+use lib.ListN.{length, get_or, take, replicate, length-take, length-replicate}
 use Rattle.wcsp.specs.Clause.{InRange, nil, cons}
 use Rattle.wcsp.proofs.Lists.{along_length}
+use Rattle.words.specs.Layout.{payload_of}
 use Rattle.fields.specs.Limits.{max_values}
 use Rattle.fields.specs.Entries.{Each, nil_each, cons_each, EachSize}
 use Rattle.sheet.specs.Sheet.{sheet_sizes}
@@ -13,15 +14,16 @@ use Rattle.sheet.proofs.Acceptance.{accepted_sheet}
 use Rattle.littleendian.specs.Words.{words_in, bytes_of}
 use Rattle.making.specs.Made.{made_words}
 use Rattle.making.proofs.Reading.{made_accepted}
-use Rattle.planning.specs.declared.Ending.{Ending}
-use Rattle.planning.specs.declared.Solved.{Solved}
+use Rattle.planning.specs.Values.{Ending, Solved}
 use Rattle.planning.specs.Solving.{buffer_words, SolveReturned}
 use Rattle.planning.specs.Theorems.{ClaimAccepted, MeansIn}
 use Rattle.planning.proofs.Meaning.{bytes_mean}
 use Rattle.planning.proofs.Claimed.{planned_is_accepted}
+use Rattle.listing.proofs.Plans.{variables_read}
 use Rattle.printing.specs.Printed.{solved_text}
 use Rattle.printing.specs.Listable.{Listable}
 use Rattle.printing.proofs.Plans.{means_listable}
+use Rattle.certificate.specs.Theorems.{Claimable}
 use Rattle.certificate.specs.Certificate.{certificate_words}
 use Rattle.verifying.specs.Verified.{most_derivation, work_words}
 use Rattle.certifying.specs.Certified.{ample_room, amply_solved, certified_text, ending_certificate, solved_certificate, certificate_of}
@@ -84,21 +86,16 @@ module _ (bytes : List ℕ) where
 
 -- ---- what is put of a value
 
+-- the parts that a certificate is put of, by as many variables as the head says
+pub parts : (bytes : List ℕ) (s : Solved) (words : List ℕ) (n : ℕ) → n ≡ payload_of (get_or (words_in bytes) 0 0) → CertifiablePlan (words_in bytes) s words
+    → (n ≡ length (sheet_sizes (words_in bytes))) × (n ≤ length s.plan) × (n ≤ 12) × (s.steps ≤ length words) × Claimable (take n s.plan) s.bound
+parts bytes s words n e p =
+    let r = variables_read (words_in bytes) p.fine in
+    let many : n ≡ length (sheet_sizes (words_in bytes)) = e ∙ r.0 in
+    (many, omega (arith, p.long, many), omega (arith, r.1, many), p.made, rw many p.claim)
+
 module _ (bytes : List ℕ) (s : Solved) (words : List ℕ) where
   pub planned_put : (out : List ℕ) (r n : ℕ) → s.ending ≡ Ending.Planned → n ≡ length (sheet_sizes (words_in bytes))
       → take r out ≡ bytes_of (certificate_words (take n s.plan) s.bound (take s.steps words)) → take r out ≡ bytes_of (solved_certificate (words_in bytes) s words)
   unfolding ending_certificate
   planned_put out r n e f p = rw (e, ← f) p
-
-  -- no plan, no bytes
-  pub refused_none : (k : ℕ) → s.ending ≡ Ending.Refused k → [] ≡ bytes_of (solved_certificate (words_in bytes) s words)
-  unfolding ending_certificate bytes_of
-  refused_none k e = rw e
-
-  pub paused-none : s.ending ≡ Ending.Paused → [] ≡ bytes_of (solved_certificate (words_in bytes) s words)
-  unfolding ending_certificate bytes_of
-  paused-none e = rw e
-
-  pub full-none : s.ending ≡ Ending.Full → [] ≡ bytes_of (solved_certificate (words_in bytes) s words)
-  unfolding ending_certificate bytes_of
-  full-none e = rw e

@@ -28,15 +28,14 @@ use Rattle.table.specs.Layout.{capacity_in, capacity}
 use Rattle.making.specs.Made.{made_words}
 use Rattle.encoding.specs.Calls.{encoded_rows, encode_call}
 use Rattle.stepping.specs.Step.{word_pair}
-use Rattle.checker.specs.declared.CheckAnswer.{CheckAnswer}
+use Rattle.checker.specs.Answer.{CheckAnswer}
 use Rattle.checker.specs.Replay.{permitted_pair, named_pair, replay}
 use Rattle.checker.specs.Calls.{check_call, judged}
 use Rattle.checker.specs.Theorems.{Best}
 use Rattle.checker.proofs.Replaying.{permitted_told}
 use Rattle.calls.specs.Calls.{Derives, stop, step}
 use Rattle.calls.specs.Demand.{RunEnds, none_left, limit_met, no_room}
-use Rattle.planning.specs.declared.Ending.{Ending}
-use Rattle.planning.specs.declared.Solved.{Solved}
+use Rattle.planning.specs.Values.{Ending, Solved}
 use Rattle.planning.specs.Theorems.{ClaimAccepted, RunIn, SheetMeansIn, faulty, long_instance, many_rows, none_allowed, planned, paused, full, MeansIn, too_long, no_words, of_words}
 use Rattle.text.specs.Text.{plan_head, variable_line}
 use Rattle.listing.specs.Listed.{metres_to, variable_lines}

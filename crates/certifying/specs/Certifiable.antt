@@ -2,8 +2,7 @@
 use Rattle.std.specs.Prelude.{ℕ, ◌≤◌, ◌≡◌, List, length, take}
 use Rattle.sheet.specs.Sheet.{sheet_fault, sheet_sizes}
 use Rattle.littleendian.specs.Words.{words_in}
-use Rattle.planning.specs.declared.Ending.{Ending}
-use Rattle.planning.specs.declared.Solved.{Solved}
+use Rattle.planning.specs.Values.{Ending, Solved}
 use Rattle.certificate.specs.Theorems.{Claimable}
 
 -- where it has a plan, a certificate takes it and its cost, and the step words are there

@@ -2,8 +2,7 @@
 use Rattle.std.specs.Prelude.{ℕ, List, [], length, take, replicate}
 use Rattle.sheet.specs.Sheet.{sheet_sizes}
 use Rattle.littleendian.specs.Words.{words_in, bytes_of}
-use Rattle.planning.specs.declared.Ending.{Ending}
-use Rattle.planning.specs.declared.Solved.{Solved}
+use Rattle.planning.specs.Values.{Ending, Solved}
 use Rattle.planning.specs.Solving.{buffer_words, SolveReturned, solve_bytes}
 use Rattle.planning.specs.Theorems.{Room}
 use Rattle.printing.specs.Printed.{solved_text}

@@ -1,7 +1,7 @@
 -- Every certificate that is written is accepted with its sheet; and what the text means.
 use Rattle.std.specs.Prelude.{ℕ, ◌≡◌, ◌≢◌, List, [], ◌++◌, take}
 use Rattle.littleendian.specs.Words.{words_in}
-use Rattle.planning.specs.declared.Solved.{Solved}
+use Rattle.planning.specs.Values.{Solved}
 use Rattle.planning.specs.Theorems.{MeansIn}
 use Rattle.text.specs.Text.{text_plan, plan_head, accepted_head}
 use Rattle.printing.specs.Theorems.{Prints}

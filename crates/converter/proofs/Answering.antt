@@ -6,14 +6,12 @@ use mathlib.Core.List.{List, ◌∷◌, ◌++◌}
 use lib.ListN.{length, take, drop, replicate, length-append, length-drop, length-replicate}
 use lib.Seq.{length-take-le, take_all, take_at}
 use borrow.Author.Tests.{eq-eqb, ne_eqb}
-use Rattle.words.specs.Layout.{kind_of, payload_of}
-use Rattle.fields.specs.declared.Answer.{Answer}
-use Rattle.littleendian.specs.Words.{words_in, word_at, bytes_of}
+use Rattle.fields.specs.Answers.{Answer}
+use Rattle.littleendian.specs.Words.{words_in, bytes_of}
 use Rattle.littleendian.proofs.Writing.{length_bytes}
 use Rattle.text.specs.Text.{refused_line}
-use Rattle.text.specs.Putting.{Put}
 use Rattle.conversion.specs.Calls.{ConvertReturned, to_six_call, to_five_call}
-use Rattle.converter.specs.Converted.{request_fault, converted_in, answer_bytes, table_bytes, converted_bytes}
+use Rattle.converter.specs.Converted.{wanted_form, wanted_words, request_fault, converted_in, answer_bytes, table_bytes, converted_bytes}
 
 -- so many bytes of the buffer are these
 abbrev Holds : List ℕ → ℕ → List ℕ → Type 0
@@ -32,18 +30,22 @@ module _ (form : ℕ) (source target : List ℕ) (c : ConvertReturned) where
 
 -- ---- its answer
 
--- a line put in front, in a buffer with room for it
-line_put : (before after : List ℕ) (r k : ℕ) → Put before 0 (refused_line k) after r → r ≤ 64 → 64 ≤ length before → Holds after r (refused_line k)
-line_put before after r k p few room = (p.0, omega (arith, p.2))
+-- the line of a refusal put in front of a buffer
+abbrev Put : List ℕ → List ℕ → ℕ → ℕ → Type 0
+Put before after r k = (take r after ≡ refused_line k) × (r ≤ 64) × (length after ≡ length before)
+
+-- it has room for it
+line_put : (before after : List ℕ) (r k : ℕ) → Put before after r k → 64 ≤ length before → Holds after r (refused_line k)
+line_put before after r k p room = (p.0, omega (arith, p.1, p.2))
 
 module _ (answer : Answer) (target : List ℕ) where
   abbrev returned : ConvertReturned
   returned = record { answer = answer; target = target }
 
   pub refusal_put : (before after : List ℕ) (r : ℕ) → (answer.number ≡ 0 → ⊥) → 64 ≤ length before
-      → Put before 0 (refused_line answer.number) after r × (r ≤ 64) → Holds after r (answer_bytes returned)
+      → Put before after r answer.number → Holds after r (answer_bytes returned)
   unfolding answer_bytes
-  refusal_put before after r h room p = rw (ne_eqb answer.number 0 h) (line_put before after r answer.number p.0 p.1 room)
+  refusal_put before after r h room p = rw (ne_eqb answer.number 0 h) (line_put before after r answer.number p room)
 
   pub target_put : (before after : List ℕ) → answer.number ≡ 0 → after ≡ bytes_of target ++ drop (4 * length target) before
       → Holds after (4 * length target) (answer_bytes returned)
@@ -67,22 +69,22 @@ zeros_front (suc m) (suc n) h = ap (λ (l : List ℕ). 0 ∷ l) (zeros_front m n
 pub zeros_long : (m n : ℕ) → m ≤ n → m ≡ length (take {A = ℕ} m (replicate n 0))
 zeros_long m n h = sym (length-take-le m (replicate n 0) (omega (arith, length-replicate {A = ℕ} n 0)))
 
-pub table_put : (asked kind m n : ℕ) (bytes words out : List ℕ) (r : ℕ) → kind ≡ kind_of asked → m ≡ payload_of asked → m ≤ n
-    → words ≡ words_in bytes → Holds out r (answer_bytes (converted_in kind words (take m (replicate n 0))))
-    → Holds out r (table_bytes (kind_of asked) (payload_of asked) (words_in bytes))
-table_put asked kind m n bytes words out r e f h g p = rw (← e, ← f, ← g, ← zeros_front m n h) p
+pub table_put : (form m n : ℕ) (bytes words out : List ℕ) (r : ℕ) → m ≤ n
+    → words ≡ words_in bytes → Holds out r (answer_bytes (converted_in form words (take m (replicate n 0))))
+    → Holds out r (table_bytes form m (words_in bytes))
+table_put form m n bytes words out r h g p = rw (← g, ← zeros_front m n h) p
 
 -- ---- a request
 
 module _ (bytes : List ℕ) (fault : ℕ) (e : fault ≡ request_fault bytes) where
-  pub fault_put : (before after : List ℕ) (r : ℕ) → (fault ≡ 0 → ⊥) → 64 ≤ length before → Put before 0 (refused_line fault) after r × (r ≤ 64)
+  pub fault_put : (before after : List ℕ) (r : ℕ) → (fault ≡ 0 → ⊥) → 64 ≤ length before → Put before after r fault
       → Holds after r (converted_bytes bytes)
   unfolding converted_bytes
-  fault_put before after r h room p = rw (← e, ne_eqb fault 0 h) (line_put before after r fault p.0 p.1 room)
+  fault_put before after r h room p = rw (← e, ne_eqb fault 0 h) (line_put before after r fault p room)
 
-  pub request_put : (asked : ℕ) (out : List ℕ) (r : ℕ) → fault ≡ 0 → asked ≡ word_at bytes 0
-      → Holds out r (table_bytes (kind_of asked) (payload_of asked) (words_in (take (length bytes - 4) (drop 4 bytes)))) → Holds out r (converted_bytes bytes)
+  pub request_put : (form words : ℕ) (out : List ℕ) (r : ℕ) → fault ≡ 0 → form ≡ wanted_form bytes → words ≡ wanted_words bytes
+      → Holds out r (table_bytes form words (words_in (take (length bytes - 4) (drop 4 bytes)))) → Holds out r (converted_bytes bytes)
   unfolding converted_bytes
-  request_put asked out r h f p =
+  request_put form words out r h f g p =
       let all = take_all (length bytes - 4) (drop 4 bytes) (omega (arith, length-drop 4 bytes)) in
-      rw (← e, eq-eqb fault 0 h, ← f, ← all) p
+      rw (← e, eq-eqb fault 0 h, ← f, ← g, ← all) p

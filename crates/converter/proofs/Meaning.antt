@@ -14,12 +14,12 @@ use Rattle.text.specs.Text.{line, refused_line}
 use Rattle.table.specs.Form.{TableForm}
 use Rattle.table.specs.Raws.{standard_form}
 use Rattle.table.specs.Meaning.{variables_of, table_sizes, own_rows_in}
-use Rattle.table.proofs.TableLaws.{TableLaws}
+use Rattle.table.specs.TableLaws.{TableLaws}
 use Rattle.table.proofs.FormTables.{PassedIn, passed, length_sizes, room_rows}
 use Rattle.table.proofs.FormTables as forms
 use Rattle.table.proofs.RawRows.{table_laws}
-use Rattle.fiveform.specs.Five.{five_form}
-use Rattle.fiveform.proofs.FiveLaws.{five_laws}
+use Rattle.table.specs.Five.{five_form}
+use Rattle.table.specs.FiveLaws.{five_laws}
 use Rattle.conversion.specs.Calls.{ConvertReturned, convert_call}
 use Rattle.conversion.specs.Theorems.{KeepsIn, BackIn}
 use Rattle.conversion.proofs.Theorems.{good_of, of_good, conversions}

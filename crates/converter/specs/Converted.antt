@@ -1,6 +1,8 @@
 -- What the converter answers. A request is one word, the form wanted in its top four bits (6 or 5, the words to a row) and the target's length
 -- in words in the low 28, and then the words of a table in the other form. The answer is the bytes of the target or the line of a refusal.
 use Rattle.std.specs.Prelude.{ℕ, ◌+◌, ◌*◌, ◌%◌, not, cond, List, [], ◌∷◌, length, drop, replicate, eqb, ltb}
+use Rattle.converter.specs.declared.Form.{Form}
+use Rattle.converter.specs.declared.Form.TheVariants.{Five, Six}
 use Rattle.words.specs.Layout.{kind_of, payload_of}
 use Rattle.fields.specs.Limits.{max_variables, between}
 use Rattle.fields.specs.Order.{◌if◌, first_of}
@@ -16,6 +18,11 @@ most_words = rows_at max_variables + row_width * max_rows
 
 abbrev pub most_bytes : ℕ
 most_bytes = 4 + 4 * most_words
+
+-- the words to a row of a form
+abbrev pub form_number : Form → ℕ
+form_number Five = 5
+form_number Six = 6
 
 -- the parts of a request
 abbrev pub wanted_form : List ℕ → ℕ

@@ -6,7 +6,7 @@ use Rattle.littleendian.specs.Words.{words_in, bytes_of}
 use Rattle.table.specs.Form.{TableForm}
 use Rattle.table.specs.Raws.{standard_form}
 use Rattle.table.specs.Meaning.{variables_of}
-use Rattle.fiveform.specs.Five.{five_form}
+use Rattle.table.specs.Five.{five_form}
 use Rattle.conversion.specs.Theorems.{Same}
 use Rattle.text.specs.Text.{refused_line}
 use Rattle.converter.specs.Converted.{wanted_form, wanted_words, table_in, converted_bytes}

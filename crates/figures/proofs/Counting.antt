@@ -1,12 +1,12 @@
 -- Sheets counted one by one: the counts add up to the sheets, and nothing outgrows what so many sheets can have.
 use Prim.Native.Nat.{ℕ, zero, suc, ◌+◌, ◌*◌, ◌≤◌, ◌<◌}
-use native.Mathlib.Numerals.{add-one}
 use native.Mathlib.Omega.{arith}
-use mathlib.Core.Path.{◌≡◌, refl}
+use mathlib.Core.Path.{◌≡◌, refl, sym}
+use Rattle.std.proofs.lemmas.List.Recursion.{is_sum_by}
+use Rattle.std.specs.List.{sum}
 use mathlib.Core.Bool.{Bool, true, false, cond}
 use mathlib.Core.List.{List, [], ◌∷◌}
-use lib.ListN.{length, get_or, set, drop, drop_of_length-le}
-use lib.Seq.{drop-cons}
+use lib.ListN.{length, get_or, set}
 use lib.Dec.{eqb, ltb, leb}
 use borrow.Author.Tests.{ltb-true, leb-true, eqb-true, lt-ltb, le-ltb, le-leb, eq-eqb, ne_eqb}
 use Rattle.wcsp.proofs.Lists.{and_left, and_right}
@@ -17,15 +17,10 @@ pub use Rattle.figures.proofs.Spaces.{line-spaced}
 
 -- ---- the counts
 
--- a count and those behind it
-pub sum_of-next : (ks : List ℕ) (i : ℕ) → i < length ks → sum_of (drop i ks) ≡ get_or ks i 0 + sum_of (drop (i + 1) ks)
+-- they add up as any numbers do
+pub sum_of_sum : (ks : List ℕ) → sum ks ≡ sum_of ks
 unfolding sum_of
-sum_of-next ks i h = rw (add-one i, drop-cons ks i 0 h)
-
--- no count left
-pub sum_of_end : (ks : List ℕ) (i : ℕ) → length ks ≤ i → sum_of (drop i ks) ≡ 0
-unfolding sum_of
-sum_of_end ks i h = rw (drop_of_length-le ks h)
+sum_of_sum ks = sym (is_sum_by sum_of (λ k. k) refl (λ _ _. refl) ks)
 
 -- one count raised raises the sum_of
 pub sum_of-set : (ks : List ℕ) (i : ℕ) → i < length ks → sum_of (set ks i (get_or ks i 0 + 1)) ≡ sum_of ks + 1

@@ -2,10 +2,8 @@
 use Prim.Native.Nat.{ℕ}
 use mathlib.Core.Path.{◌≡◌, sym, ap}
 use mathlib.Core.List.{List, [], ◌∷◌}
-use borrow.Author.Tests.{ne_eqb}
-use Rattle.resolution.specs.declared.StepAnswer.{StepAnswer}
-use Rattle.resolution.specs.declared.Outcome.{Outcome}
-use Rattle.resolution.specs.declared.RunAnswer.{RunAnswer}
+use Rattle.resolution.specs.Answers.{StepAnswer}
+use Rattle.resolution.specs.Outcomes.{RunAnswer}
 use Rattle.resolution.specs.Calls.{StepReturned, step_call}
 use Rattle.resolution.specs.Numbers.{step_number, step_fields, outcome_field, run_fields}
 use Rattle.calls.specs.Driver.{DriveReturned, Drives}
@@ -34,12 +32,3 @@ run_fields_lem ran field e = ap (λ (o : ℕ). o ∷ (ran.steps ∷ (ran.bound �
 pub drive_upholds : (inst t calls out target : List ℕ) (r : DriveReturned) → Drives inst t calls out target r
     → DriveUpholds inst t calls out target r.answer.number r.table r.out
 drive_upholds inst t calls out target r (e, u) = λ good. let s = ap (λ (d : DriveReturned). d.answer.steps) e in rw s at (u good)
-
--- the outcome field of a run refused with 9, and of one that another number stopped
-pub unrun_field : (o : Outcome) (k : ℕ) → o ≡ Outcome.Refused k → k ≡ 9 → 0 ≡ outcome_field o
-unfolding outcome_field
-unrun_field o k e h = rw (e, h)
-
-pub stopped_field : (o : Outcome) (k : ℕ) → o ≡ Outcome.Refused k → (k ≡ 9 → ⊥) → 2 ≡ outcome_field o
-unfolding outcome_field
-stopped_field o k e h = let f = ne_eqb k 9 h in rw (e, f)

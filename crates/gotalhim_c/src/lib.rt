@@ -5,7 +5,7 @@ ghost use Rattle.std.specs.Prelude.{◌≡◌, [], ◌∷◌};
 ghost use Rattle.assignment.specs.Calls.{plan_call};
 ghost use Rattle.gotalhim.specs.Exports.{make_export, encode_export, step_export, run_export, complete_export, six_export, five_export, check_export, readout_export, cost_export, drive_export, DriveUpholds};
 
-// Make an instance from a sheet. Answer: the words written.
+/// Make an instance from a sheet. Answer: the words written.
 #[unsafe(no_mangle)]
 pub extern "C" fn gotalhim_make(sheet: &[u32], target: &mut [u32], answer: &mut [u64]) -> u32
     ensures returned { record { number = result; slices = target.new ∷ []; answer = answer.new } ≡ make_export sheet.now target.old answer.old }
@@ -13,7 +13,7 @@ pub extern "C" fn gotalhim_make(sheet: &[u32], target: &mut [u32], answer: &mut 
     gotalhim::gotalhim_make(sheet, target, answer)
 }
 
-// Encode an instance as the rows of a table. Answer: the rows.
+/// Encode an instance as the rows of a table. Answer: the rows.
 #[unsafe(no_mangle)]
 pub extern "C" fn gotalhim_encode(instance: &[u32], table: &mut [u32], answer: &mut [u64]) -> u32
     ensures returned { record { number = result; slices = table.new ∷ []; answer = answer.new } ≡ encode_export instance.now table.old answer.old }
@@ -21,7 +21,7 @@ pub extern "C" fn gotalhim_encode(instance: &[u32], table: &mut [u32], answer: &
     gotalhim::gotalhim_encode(instance, table, answer)
 }
 
-// Make the next step in a table. Answer: 1 if no pair is left, else 0; the step word.
+/// Make the next step in a table. Answer: 1 if no pair is left, else 0; the step word.
 #[unsafe(no_mangle)]
 pub extern "C" fn gotalhim_step(table: &mut [u32], answer: &mut [u64]) -> u32
     ensures returned { record { number = result; slices = table.new ∷ []; answer = answer.new } ≡ step_export table.old answer.old }
@@ -29,7 +29,7 @@ pub extern "C" fn gotalhim_step(table: &mut [u32], answer: &mut [u64]) -> u32
     gotalhim::gotalhim_step(table, answer)
 }
 
-// Make steps one after the other. Answer: the outcome, the steps made, the bound; all 0 for 9.
+/// Make steps one after the other. Answer: the outcome, the steps made, the bound; all 0 for 9.
 #[unsafe(no_mangle)]
 pub extern "C" fn gotalhim_run(
     table: &mut [u32],
@@ -43,7 +43,7 @@ pub extern "C" fn gotalhim_run(
     gotalhim::gotalhim_run(table, limit, derivation, answer)
 }
 
-// Rebuild the assignment of a table in which no pair is left.
+/// Rebuild the assignment of a table in which no pair is left.
 #[unsafe(no_mangle)]
 pub extern "C" fn gotalhim_plan(table: &[u32], target: &mut [u8]) -> u32
     ensures returned { record { number = result; target = target.new } ≡ plan_call table.now target.old }
@@ -51,7 +51,7 @@ pub extern "C" fn gotalhim_plan(table: &[u32], target: &mut [u8]) -> u32
     gotalhim::gotalhim_plan(table, target)
 }
 
-// Complete an assignment of which the values from variable k on are fixed, from a table in which no pair is left. Answer: the cost.
+/// Complete an assignment of which the values from variable k on are fixed, from a table in which no pair is left. Answer: the cost.
 #[unsafe(no_mangle)]
 pub extern "C" fn gotalhim_complete(
     table: &[u32],
@@ -66,7 +66,7 @@ pub extern "C" fn gotalhim_complete(
     gotalhim::gotalhim_complete(table, k, fixed, target, answer)
 }
 
-// Turn last year's table of five-word rows into one of six-word rows. Answer: the rows.
+/// Turn last year's table of five-word rows into one of six-word rows. Answer: the rows.
 #[unsafe(no_mangle)]
 pub extern "C" fn gotalhim_to_six(source: &[u32], target: &mut [u32], answer: &mut [u64]) -> u32
     ensures returned { record { number = result; slices = target.new ∷ []; answer = answer.new } ≡ six_export source.now target.old answer.old }
@@ -74,7 +74,7 @@ pub extern "C" fn gotalhim_to_six(source: &[u32], target: &mut [u32], answer: &m
     gotalhim::gotalhim_to_six(source, target, answer)
 }
 
-// Turn a table of six-word rows back into one of five-word rows. Answer: the rows.
+/// Turn a table of six-word rows back into one of five-word rows. Answer: the rows.
 #[unsafe(no_mangle)]
 pub extern "C" fn gotalhim_to_five(source: &[u32], target: &mut [u32], answer: &mut [u64]) -> u32
     ensures returned { record { number = result; slices = target.new ∷ []; answer = answer.new } ≡ five_export source.now target.old answer.old }
@@ -82,7 +82,7 @@ pub extern "C" fn gotalhim_to_five(source: &[u32], target: &mut [u32], answer: &
     gotalhim::gotalhim_to_five(source, target, answer)
 }
 
-// Replay a derivation in a work table, and judge a plan and its claimed cost. Answer: the steps replayed.
+/// Replay a derivation in a work table, and judge a plan and its claimed cost. Answer: the steps replayed.
 #[unsafe(no_mangle)]
 pub extern "C" fn gotalhim_check(
     instance: &[u32],
@@ -98,7 +98,7 @@ pub extern "C" fn gotalhim_check(
     gotalhim::gotalhim_check(instance, derivation, plan, claimed, table, answer)
 }
 
-// The metres from a position to the place of an assignment's value. Answer: the metres.
+/// The metres from a position to the place of an assignment's value. Answer: the metres.
 #[unsafe(no_mangle)]
 pub extern "C" fn gotalhim_readout(
     sheet: &[u32],
@@ -113,7 +113,7 @@ pub extern "C" fn gotalhim_readout(
     gotalhim::gotalhim_readout(sheet, plan, variable, easting, northing, answer)
 }
 
-// The cost of an assignment in an instance. Answer: the cost.
+/// The cost of an assignment in an instance. Answer: the cost.
 #[unsafe(no_mangle)]
 pub extern "C" fn gotalhim_cost(instance: &[u32], plan: &[u8], answer: &mut [u64]) -> u32
     ensures returned { record { number = result; slices = []; answer = answer.new } ≡ cost_export instance.now plan.now answer.old }
@@ -121,7 +121,7 @@ pub extern "C" fn gotalhim_cost(instance: &[u32], plan: &[u8], answer: &mut [u64
     gotalhim::gotalhim_cost(instance, plan, answer)
 }
 
-// Encode an instance, then make the calls of a list of words. Answer: the steps made. Where the encoding is good, demand 3 holds of what is left.
+/// Encode an instance, then make the calls of a list of words. Answer: the steps made. Where the encoding is good, demand 3 holds of what is left.
 #[unsafe(no_mangle)]
 pub extern "C" fn gotalhim_drive(
     instance: &[u32],

@@ -1,22 +1,17 @@
-// The lines of an assignment put into a buffer: each variable with its value and the whole metres to it.
+// The lines of an assignment put into a text: each variable with its value and the whole metres to it.
 #![tactic(auto)]
 
-ghost use Rattle.std.specs.Prelude.{◌≡◌, ◌+◌, ◌*◌, ◌≤◌, ◌<◌, length, get_or};
+ghost use Rattle.std.specs.Prelude.{◌≡◌, ◌+◌, ◌≤◌, ◌<◌, ◌++◌, length, get_or};
+ghost use Rattle.arrayvec.specs.ArrayVec.{array_vec_len};
 ghost use Rattle.words.specs.Layout.{payload_of};
 ghost use Rattle.fields.specs.Limits.{max_variables};
-ghost use Rattle.text.specs.Putting.{Put};
 ghost use Rattle.sheet.specs.Sheet.{sheet_sizes};
-ghost use Rattle.listing.specs.Listed.{metres_to, variable_lines, assignment_lines};
+ghost use Rattle.listing.specs.Listed.{metres_to, assignment_lines};
 ghost use Rattle.listing.specs.Plans.{HoldsPlan};
 
-// The text that a program prints: so many bytes of the buffer. A head and twelve lines take at most 832.
-#[derive(Clone, Copy)]
-pub struct Text {
-    pub bytes: [u8; 1024],
-    pub length: usize,
-}
+use arrayvec::ArrayVec;
 
-// Whole metres to a variable's value from the value of the variable before it; 0 for the first.
+/// Whole metres to a variable's value from the value of the variable before it; 0 for the first.
 fn metres_to(sheet: &[u32], plan: &[u8], v: usize) -> u32
     requires holds_plan { HoldsPlan sheet.now plan.now }
     requires v_in_bounds { (v < length (sheet_sizes sheet.now)) × (v < max_variables) }
@@ -26,42 +21,32 @@ fn metres_to(sheet: &[u32], plan: &[u8], v: usize) -> u32
         return 0;
     }
     let last = v - 1;
-    let start = sheet::position(sheet, last as u32, fields::wide(plan[last]));
-    let stop = sheet::position(sheet, v as u32, fields::wide(plan[v]));
+    let start = sheet::position(sheet, last as u32, u32::from(plan[last]));
+    let stop = sheet::position(sheet, v as u32, u32::from(plan[v]));
     distance::between(start.easting, start.northing, stop.easting, stop.northing)
 }
 
-// A line for each of the sheet's n variables.
-fn put_lines(sheet: &[u32], plan: &[u8], n: usize, out: &mut [u8], at: usize) -> usize
-    requires holds_plan { HoldsPlan sheet.now plan.now }
-    requires n_value { (n ≡ length (sheet_sizes sheet.now)) × (n ≤ max_variables) × (at + 64 * n ≤ length out.old) }
-    ensures { Put out.old at (variable_lines sheet.now plan.now 0 n) out.new result × (result ≤ at + 64 * n) }
-{
-    let mut end = at;
-    let mut v = 0;
-    while v < n {
-        let metres = metres_to(sheet, plan, v);
-        end = text::put_variable(out, end, v as u32, plan[v], metres);
-        v += 1;
-    }
-    end
-}
-
-// How many variables a sheet has by its head; none where it has no words.
+/// How many variables a sheet has by its head; none where it has no words.
 fn variables_of(sheet: &[u32]) -> usize
     ensures { result ≡ payload_of (get_or sheet.now 0 0) }
 {
-    if sheet.len() == 0 {
+    let Some(&head) = sheet.first() else {
         return 0;
-    }
-    words::payload(sheet[0]) as usize
+    };
+    words::payload(head) as usize
 }
 
-// The lines of all variables of an accepted sheet. Each takes at most 64 bytes, and twelve 768.
-pub fn put_assignment(sheet: &[u32], plan: &[u8], out: &mut [u8], at: usize) -> usize
+/// Puts a line for each variable of an accepted sheet: its number, the plan's value, and the metres from the value before. A line takes
+/// 64 bytes at most, and twelve 768.
+pub fn put_assignment<const N: usize>(text: &mut ArrayVec<u8, N>, sheet: &[u32], plan: &[u8])
     requires holds_plan { HoldsPlan sheet.now plan.now }
-    requires at_in_bounds { at + 768 ≤ length out.old }
-    ensures { Put out.old at (assignment_lines sheet.now plan.now) out.new result × (result ≤ at + 768) }
+    requires in_bounds { array_vec_len text.old + 768 ≤ N }
+    ensures lines { text.new.items ≡ text.old.items ++ assignment_lines sheet.now plan.now }
+    ensures short { array_vec_len text.new ≤ array_vec_len text.old + 768 }
 {
-    put_lines(sheet, plan, variables_of(sheet), out, at)
+    let count = variables_of(sheet);
+    for v in 0..count {
+        let metres = metres_to(sheet, plan, v);
+        text::put_variable(text, v as u32, plan[v], metres);
+    }
 }

@@ -10,20 +10,20 @@ ghost use Rattle.batch.specs.Feeding.{finished_line};
 use batch::Season;
 use std::io::Print;
 
-// The most bytes that are read: the word and a season of 131,072.
+/// The most bytes that are read: the word and a season of 131,072.
 const LONGEST: usize = 131076;
 
-// The season that bytes lead to, in pieces of a length.
+/// The season that bytes lead to, in pieces of a length.
 fn fed_in_pieces(bytes: &[u8], long: usize, body: &mut [u8]) -> Season
     requires { (1 ≤ long) × (4 * longest_sheet ≤ length body.old) }
     ensures { finished_line result ≡ season_line bytes.now }
 {
-    let mut season = batch::start();
+    let mut season = Season::start();
     let mut at = 0;
+    // No `for`: the last piece may be shorter.
     while at < bytes.len() {
-        let left = (bytes.len() - at) as u64;
-        let end = at + fields::lesser(long as u64, left) as usize;
-        season = batch::feed(season, body, &bytes[at..end]);
+        let end = at + long.min(bytes.len() - at);
+        season = season.feed(body, &bytes[at..end]);
         at = end;
     }
     season
@@ -32,9 +32,8 @@ fn fed_in_pieces(bytes: &[u8], long: usize, body: &mut [u8]) -> Season
 fn main(rt: HostRuntime) {
     let mut bytes = [0u8; LONGEST];
     let mut body = [0u8; cutting::SHEET_BYTES];
-    let input = reading::read_all(rt.stdin(), &mut bytes);
-    let got = input.length;
-    if input.failed || got < 4 {
+    let got = reading::read_all(&mut rt.stdin(), &mut bytes).unwrap_or(0);
+    if got < 4 {
         let _ = rt
             .stderr()
             .write_all(b"pieces: the length of pieces cannot be read\n");
@@ -48,8 +47,6 @@ fn main(rt: HostRuntime) {
         return;
     }
     let season = fed_in_pieces(&bytes[4..got], long, &mut body);
-    let line = batch::finish(season);
-    let text = line.bytes;
-    let length = line.length;
-    let _ = rt.write_all(&text[..length]);
+    let line = season.finish();
+    let _ = rt.write_all(&line);
 }

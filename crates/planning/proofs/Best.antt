@@ -21,7 +21,7 @@ use Rattle.making.specs.Made.{made_words}
 use Rattle.making.proofs.Reading.{made_accepted}
 use Rattle.encoding.specs.Calls.{encode_call}
 use Rattle.stepping.specs.Step.{Stepping, refusing, steps_to, pair_word}
-use Rattle.resolution.specs.declared.Outcome.{Outcome}
+use Rattle.resolution.specs.Outcomes.{Outcome}
 use Rattle.resolution.specs.Step.{one_step}
 use Rattle.resolution.specs.Run.{Ran, after, at_limit, run_rows}
 use Rattle.resolution.specs.Calls.{run_returns, run_call}

@@ -14,13 +14,12 @@ use Rattle.making.specs.Made.{made_words}
 use Rattle.making.specs.Calls.{Made, make_call}
 use Rattle.making.proofs.MakeTests.{making, made_in}
 use Rattle.encoding.specs.Calls.{encode_call}
-use Rattle.resolution.specs.declared.Outcome.{Outcome}
+use Rattle.resolution.specs.Outcomes.{Outcome}
 use Rattle.resolution.specs.Numbers.{outcome_field}
 use Rattle.resolution.specs.Calls.{RunReturned, run_call}
 use Rattle.assignment.specs.Calls.{plan_call}
 use Rattle.littleendian.specs.Words.{words_in}
-use Rattle.planning.specs.declared.Ending.{Ending}
-use Rattle.planning.specs.declared.Solved.{Solved}
+use Rattle.planning.specs.Values.{Ending, Solved}
 use Rattle.planning.specs.Solving.{buffer_words, stopped_solved, refused_solved, finished_solved, ended_solved, TableSolved, solve_table, solve_instance, with_instance, SolveReturned, solve_call, solve_bytes}
 use Rattle.planning.specs.Theorems.{ClaimAccepted, PlannedIsAccepted}
 use Rattle.planning.proofs.Best.{done_is_best, done_is_forbidden, done_is_accepted, run_few, run_written}

@@ -33,7 +33,7 @@ use Rattle.checker.specs.Theorems.{Best}
 use Rattle.calls.specs.Calls.{Derives}
 use Rattle.calls.specs.Demand.{RunEnds, none_left, limit_met, no_room}
 use Rattle.calls.proofs.Empty.{none_left_lem, no_steps, best_empty}
-use Rattle.planning.specs.declared.Solved.{Solved}
+use Rattle.planning.specs.Values.{Solved}
 use Rattle.planning.specs.Solving.{buffer_words, solved_of}
 use Rattle.planning.specs.Theorems.{Room, program_room, RunIn, SheetMeansIn, faulty, long_instance, many_rows, none_allowed, planned, paused, full, MeansIn, too_long, no_words, of_words}
 use Rattle.planning.specs.Empty.{EmptySheet, EmptySolved, EmptySolves, EmptyBytes}

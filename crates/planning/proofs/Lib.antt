@@ -1,5 +1,4 @@
 -- The laws of a sheet's value.
-mod Solving
 pub mod Best
 pub mod Meaning
 pub mod Numbers

@@ -17,7 +17,7 @@ use Rattle.making.specs.Made.{made_words}
 use Rattle.making.specs.Calls.{Made, make_call}
 use Rattle.making.proofs.Reading.{made_accepted}
 use Rattle.encoding.specs.Calls.{encoded_rows, encode_call}
-use Rattle.resolution.specs.declared.Outcome.{Outcome}
+use Rattle.resolution.specs.Outcomes.{Outcome}
 use Rattle.resolution.specs.Numbers.{outcome_number, outcome_field}
 use Rattle.resolution.specs.Calls.{RunReturned, run_call}
 use Rattle.assignment.specs.Calls.{plan_call}

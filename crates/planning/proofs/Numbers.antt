@@ -2,7 +2,7 @@
 use Prim.Native.Nat.{ℕ}
 use native.Mathlib.Omega.{arith}
 use mathlib.Core.List.{List}
-use Rattle.planning.specs.declared.Solved.{Solved}
+use Rattle.planning.specs.Values.{Solved}
 use Rattle.planning.specs.Solving.{ending_number}
 use Rattle.planning.specs.Theorems.{SheetMeans, faulty, long_instance, many_rows, none_allowed, planned, paused, full, Means, too_long, no_words, of_words, SheetNumber, success, fault, too_short, too_many, no_plan, SolvedNumbers}
 use Rattle.planning.proofs.Meaning.{solved_means}

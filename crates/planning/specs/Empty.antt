@@ -6,8 +6,7 @@ use Rattle.fields.specs.Limits.{forbidden_cost}
 use Rattle.sheet.specs.Sheet.{sheet_fault, sheet_sizes}
 use Rattle.input.specs.Instance.{entries_of}
 use Rattle.littleendian.specs.Words.{words_in}
-use Rattle.planning.specs.declared.Ending.{Ending}
-use Rattle.planning.specs.declared.Solved.{Solved}
+use Rattle.planning.specs.Values.{Ending, Solved}
 use Rattle.planning.specs.Solving.{buffer_words, refused_solved, solved_of}
 
 -- bytes whose words are an accepted sheet with no variables: none at all, or a head of 0 and constant costs

@@ -1,4 +1,5 @@
 -- A sheet planned: the value that it comes to.
+pub mod Values
 pub mod Solving
 pub mod Theorems
 pub mod Empty

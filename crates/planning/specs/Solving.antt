@@ -1,13 +1,15 @@
 -- What planning a sheet comes to: in lent buffers, with what it leaves there, and for bytes in the program's own.
-use Rattle.std.specs.Prelude.{ℕ, ◌*◌, ◌%◌, cond, List, length, take, replicate, eqb, ltb}
+use Rattle.std.specs.Prelude.{ℕ, ◌*◌, ◌%◌, cond, List, length, take, replicate, eqb, ltb, Result, Ok, Err}
 use Rattle.fields.specs.Limits.{max_variables}
+use Rattle.fields.specs.Numbers.{number_of}
+use Rattle.fields.specs.declared.refusals.Refusal.{Refusal}
 use Rattle.making.specs.Calls.{make_call}
 use Rattle.encoding.specs.Calls.{encode_call}
-use Rattle.resolution.specs.declared.Outcome.{Outcome}
+use Rattle.resolution.specs.Outcomes.{Outcome}
 use Rattle.resolution.specs.Calls.{run_call}
 use Rattle.assignment.specs.Calls.{plan_call}
-use Rattle.planning.specs.declared.Ending.{Ending}
-use Rattle.planning.specs.declared.Solved.{Solved}
+use Rattle.planning.specs.declared.Solved.{Solved as Answered}
+use Rattle.planning.specs.Values.{Ending, Solved, solved_as}
 use Rattle.littleendian.specs.Words.{words_in}
 
 -- the program's buffers in words, one of buffer_words for each of sheet, instance and steps; the limit of its run. A sheet has no more words in any program
@@ -29,6 +31,11 @@ stopped_solved e steps bound = record { ending = e; steps = steps; bound = bound
 -- a refusal has its number, other fields 0
 abbrev pub refused_solved : ℕ → Solved
 refused_solved k = stopped_solved (Ending.Refused k) 0 0
+
+-- the value of what was planned, or of a refusal
+abbrev pub value_of : Result Answered Refusal → Solved
+value_of (Ok s) = solved_as s
+value_of (Err r) = refused_solved (number_of r)
 
 abbrev pub planned_solved : List ℕ → ℕ → ℕ → Solved
 planned_solved plan steps bound = record { ending = Ending.Planned; steps = steps; bound = bound; plan = plan }

@@ -17,8 +17,7 @@ use Rattle.checker.specs.Calls.{check_call}
 use Rattle.checker.specs.Theorems.{Best}
 use Rattle.calls.specs.Calls.{Derives}
 use Rattle.calls.specs.Demand.{RunEnds}
-use Rattle.planning.specs.declared.Ending.{Ending}
-use Rattle.planning.specs.declared.Solved.{Solved}
+use Rattle.planning.specs.Values.{Ending, Solved}
 use Rattle.littleendian.specs.Words.{words_in}
 use Rattle.planning.specs.Solving.{buffer_words, table_buffer, step_limit, refused_solved, stopped_solved, planned_solved, ending_number, solve_call, solve_bytes, solved_of}
 

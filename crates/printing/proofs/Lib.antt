@@ -2,4 +2,3 @@
 pub mod Meaning
 pub mod Empty
 pub mod Plans
-pub mod Texts

@@ -1,7 +1,7 @@
 -- The printed text is that of the value of the bytes, whatever the value means.
 use Prim.Native.Nat.{ℕ}
 use mathlib.Core.List.{List}
-use Rattle.planning.specs.declared.Solved.{Solved}
+use Rattle.planning.specs.Values.{Solved}
 use Rattle.planning.specs.Solving.{solved_of}
 use Rattle.littleendian.specs.Words.{words_in}
 use Rattle.planning.specs.Theorems.{Room, program_room, SheetMeansIn, faulty, long_instance, many_rows, none_allowed, planned, paused, full, MeansIn, too_long, no_words, of_words}

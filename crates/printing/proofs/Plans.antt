@@ -9,8 +9,7 @@ use Rattle.input.specs.Instance.{sizes_of, entries_of}
 use Rattle.making.specs.Made.{made_words}
 use Rattle.making.proofs.Reading.{made_accepted}
 use Rattle.checker.specs.Theorems.{Best}
-use Rattle.planning.specs.declared.Ending.{Ending}
-use Rattle.planning.specs.declared.Solved.{Solved}
+use Rattle.planning.specs.Values.{Ending, Solved}
 use Rattle.littleendian.specs.Words.{words_in}
 use Rattle.planning.specs.Solving.{solved_of}
 use Rattle.planning.specs.Theorems.{Room, program_room, SheetMeansIn, faulty, long_instance, many_rows, none_allowed, planned, paused, full, MeansIn, too_long, no_words, of_words}

@@ -1,7 +1,6 @@
 -- Inner: a value whose text can be put.
 use Rattle.std.specs.Prelude.{ℕ, ◌*◌, ◌≤◌, ◌≡◌, List, length}
-use Rattle.planning.specs.declared.Ending.{Ending}
-use Rattle.planning.specs.declared.Solved.{Solved}
+use Rattle.planning.specs.Values.{Ending, Solved}
 use Rattle.littleendian.specs.Words.{words_in}
 use Rattle.planning.specs.Solving.{buffer_words}
 use Rattle.listing.specs.Plans.{HoldsPlan}

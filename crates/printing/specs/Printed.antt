@@ -2,8 +2,7 @@
 use Rattle.std.specs.Prelude.{ℕ, List, ◌++◌}
 use Rattle.text.specs.Text.{refused_line, paused_line, full_line, plan_head}
 use Rattle.listing.specs.Listed.{assignment_lines}
-use Rattle.planning.specs.declared.Ending.{Ending}
-use Rattle.planning.specs.declared.Solved.{Solved}
+use Rattle.planning.specs.Values.{Ending, Solved}
 use Rattle.littleendian.specs.Words.{words_in}
 use Rattle.planning.specs.Solving.{solved_of}
 

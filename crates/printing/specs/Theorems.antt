@@ -1,8 +1,7 @@
 -- What the printed text means.
 use Rattle.std.specs.Prelude.{ℕ, List}
 use Rattle.text.specs.Text.{refused_line, paused_line, full_line}
-use Rattle.planning.specs.declared.Ending.{Ending}
-use Rattle.planning.specs.declared.Solved.{Solved}
+use Rattle.planning.specs.Values.{Ending, Solved}
 use Rattle.littleendian.specs.Words.{words_in}
 use Rattle.planning.specs.Solving.{refused_solved, stopped_solved, planned_solved}
 use Rattle.planning.specs.Theorems.{Means}

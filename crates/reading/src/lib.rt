@@ -1,45 +1,63 @@
-// Reads of the standard input, for the programs: one read a call and never ahead of what is asked, so that the place in a file shows what was read.
+// Reads for the programs: one read a call and never ahead of what is asked, so that the place in a file shows what was read; and what the programs do that read, work and write.
 #![tactic(auto)]
 
-ghost use Rattle.std.specs.Prelude.{◌≤◌, ◌≡◌, true, length};
+ghost use Rattle.std.specs.Prelude.{◌≤◌, IfOk, length};
+ghost use Rattle.std.specs.Io.{ReadsAtMost};
+ghost use Rattle.std.specs.Io.KnownBytes.{ReadConsumes};
 
-use std::io::{Read, Stdin};
+use std::io;
+use std::io::{Print, Read};
+use text::Text;
 
-// What reading came to: whether a read failed, and how many bytes were read.
-#[derive(Clone, Copy)]
-pub struct Input {
-    pub failed: bool,
-    pub length: usize,
-}
-
-// One read into the front of the bytes: none come where it fails, and none where the input has ended.
-pub fn read_some(mut input: Stdin, bytes: &mut [u8]) -> Input
-    ensures { (result.length ≤ length bytes.old) × (result.failed ≡ true → result.length ≡ 0) }
+/// Makes one read into the front of the bytes; how many came, 0 where the input has ended.
+///
+/// # Errors
+///
+/// Where the read fails: nothing was read then.
+pub fn read_some<R: Read>(input: &mut R, bytes: &mut [u8]) -> io::Result<usize>
+    ensures bound { ReadsAtMost result bytes.new }
+    ensures bytes { ReadConsumes (R.remaining input.old) (R.remaining input.new) result bytes.new }
 {
-    let got = input.read(bytes);
-    Input {
-        failed: got.is_err(),
-        length: got.unwrap_or(0),
-    }
+    input.read(bytes)
 }
 
-// Reads until the bytes are full or a read brings none: a read that failed is told from the end of the input, so that no cut input passes for a whole one.
-pub fn read_all(input: Stdin, bytes: &mut [u8]) -> Input
-    ensures { result.length ≤ length bytes.new }
+/// Reads until the bytes are full or the input has ended; how many came.
+///
+/// # Errors
+///
+/// Where a read fails, so that no cut input passes for a whole one.
+pub fn read_all<R: Read>(input: &mut R, bytes: &mut [u8]) -> io::Result<usize>
+    ensures { IfOk result (λ n. n ≤ length bytes.new) }
 {
     let mut done = 0;
+    // No `for`: a read brings as many bytes as it likes.
     while done < bytes.len() {
-        let more = read_some(input, &mut bytes[done..]);
-        if more.length == 0 {
-            return Input {
-                failed: more.failed,
-                length: done,
-            };
+        let more = read_some(input, &mut bytes[done..])?;
+        if more == 0 {
+            break;
         }
-        done += more.length;
+        done += more;
     }
-    Input {
-        failed: false,
-        length: done,
+    Ok(done)
+}
+
+/// Reads the standard input into the bytes, until they are full or it has ended, and writes what the work makes of it to the standard output. Where
+/// the input cannot be read, or the answer not written, the one or the other complaint goes to the standard error.
+pub fn answer<F: FnOnce(&[u8]) -> Text>(
+    rt: HostRuntime,
+    bytes: &mut [u8],
+    unread: &[u8],
+    unwritten: &[u8],
+    work: F,
+)
+    requires { F.IsAlwaysCallable work }
+{
+    let Ok(got) = read_all(&mut rt.stdin(), bytes) else {
+        let _ = rt.stderr().write_all(unread);
+        return;
+    };
+    let text = work(&bytes[..got]);
+    if rt.write_all(&text).is_err() {
+        let _ = rt.stderr().write_all(unwritten);
     }
 }

@@ -4,78 +4,65 @@ use native.Mathlib.Omega.{arith}
 use mathlib.Core.Path.{◌≡◌, sym, ap, ◌∙◌}
 use mathlib.Core.Bool.{Bool, true, false}
 use mathlib.Core.List.{List}
-use lib.ListN.{length, get_or, take}
-use borrow.Author.Tests.{lt-ltb, le-ltb}
+use lib.ListN.{length, get_or}
+use borrow.Author.Tests.{lt-ltb, le-ltb, ne_eqb}
 use Rattle.wcsp.specs.Clause.{InRange}
 use Rattle.wcsp.proofs.Lists.{along_length, along_at}
-use Rattle.words.specs.declared.Coordinate.{Coordinate}
-use Rattle.words.specs.declared.Coordinate.TheVariants.{At, Outside}
-use Rattle.fields.specs.Limits.{max_variables}
+use Rattle.std.specs.Prelude.{Option, Some, None}
 use Rattle.fields.specs.Assignment.{is_assignment}
 use Rattle.fields.specs.Answers.{refused, good}
-use Rattle.fields.proofs.Padding.{sizes_taken, sizes_twelve}
 use Rattle.fields.proofs.Assigning.{in_range_of}
 use Rattle.distance.specs.Metres.{max_offset}
-use Rattle.sheet.specs.declared.SheetRead.{SheetRead}
+use Rattle.fields.specs.Numbers.{fault_number}
+use Rattle.fields.specs.declared.refusals.Fault.{Fault}
 use Rattle.sheet.specs.Sheet.{coordinate_in, sheet_fault, sheet_sizes}
-use Rattle.sheet.specs.Calls.{sheet_call, position_in, travel}
+use Rattle.sheet.specs.Calls.{position_in, travel}
 use Rattle.sheet.proofs.Coordinates.{place_found, place_missed}
-use Rattle.sheet.proofs.Sheets.{GoodRead, good_read, bad_read}
-use Rattle.sheet.proofs.Acceptance.{accepted_sheet}
+use Rattle.sheet.proofs.Sheets.{fault_some}
 use Rattle.readout.specs.Calls.{readout_call}
 
-module _ (sheet plan : List ℕ) (v easting northing : ℕ) (read : SheetRead) (r : read ≡ sheet_call sheet) where
-  pub sheet_refused : (read.number ≡ 0 → ⊥) → refused read.number ≡ readout_call sheet plan v easting northing
+module _ (sheet plan : List ℕ) (v easting northing : ℕ) where
+  pub sheet_refused : (f : Fault) → fault_number f ≡ sheet_fault sheet → refused (fault_number f) ≡ readout_call sheet plan v easting northing
   unfolding readout_call
-  sheet_refused h = let (f, k) = bad_read sheet read r h in rw (f, k)
+  sheet_refused f e = rw (← e, ne_eqb (fault_number f) 0 (fault_some f))
 
-  -- the sheet is accepted
-  module _ (z : read.number ≡ 0) where
-    known : GoodRead sheet read
-    known = good_read sheet read r z
+  -- the sheet is accepted, and has these sizes
+  module _ (fine : sheet_fault sheet ≡ 0) (sizes : List ℕ) (d : sizes ≡ sheet_sizes sheet) where
+    number : length sizes ≡ length (sheet_sizes sheet)
+    number = ap length d
 
-    number : read.variables ≡ length (sheet_sizes sheet)
-    number = known.variables
-
-    pub few_variables : (read.variables ≤ max_variables) × (read.variables ≤ length read.sizes)
-    few_variables =
-        let m = (accepted_sheet sheet known.fine).sizes.most in
-        let l = sizes_twelve (sheet_sizes sheet) read.sizes known.sizes m in
-        (omega (arith, number), omega (arith, number))
-
-    pub no_variable : read.variables ≤ v → refused 8 ≡ readout_call sheet plan v easting northing
+    pub no_variable : length sizes ≤ v → refused 8 ≡ readout_call sheet plan v easting northing
     unfolding readout_call
-    no_variable h = rw (known.fine, le-ltb v (length (sheet_sizes sheet)) (omega (arith, number)))
+    no_variable h = rw (fine, le-ltb v (length (sheet_sizes sheet)) (omega (arith, number)))
 
     -- it has the variable
-    module _ (h : v < read.variables) (q : Coordinate) (e : q ≡ coordinate_in 8 easting) where
+    module _ (h : v < length sizes) (q : Option ℕ) (e : q ≡ coordinate_in 8 easting) where
       inside : v < length (sheet_sizes sheet)
       inside = omega (arith, number)
 
-      pub no_east : q ≡ Outside → refused 8 ≡ readout_call sheet plan v easting northing
+      pub no_east : q ≡ None → refused 8 ≡ readout_call sheet plan v easting northing
       unfolding readout_call
-      no_east o = rw (known.fine, lt-ltb v (length (sheet_sizes sheet)) inside, (place_missed 8 easting q e o).0)
+      no_east o = rw (fine, lt-ltb v (length (sheet_sizes sheet)) inside, (place_missed 8 easting q e o).0)
 
       -- the easting is good
-      module _ (east : ℕ) (f : q ≡ At east) (q' : Coordinate) (e' : q' ≡ coordinate_in 9 northing) where
-        pub no_north : q' ≡ Outside → refused 8 ≡ readout_call sheet plan v easting northing
+      module _ (east : ℕ) (f : q ≡ Some east) (q' : Option ℕ) (e' : q' ≡ coordinate_in 9 northing) where
+        pub no_north : q' ≡ None → refused 8 ≡ readout_call sheet plan v easting northing
         unfolding readout_call
         no_north o =
             let x = place_found 8 easting q e east f in
-            rw (known.fine, lt-ltb v (length (sheet_sizes sheet)) inside, x.0, (place_missed 9 northing q' e' o).0)
+            rw (fine, lt-ltb v (length (sheet_sizes sheet)) inside, x.0, (place_missed 9 northing q' e' o).0)
 
         -- the northing is good
-        module _ (north : ℕ) (f' : q' ≡ At north) (b : Bool) (t : b ≡ is_assignment (take read.variables read.sizes) plan) where
+        module _ (north : ℕ) (f' : q' ≡ Some north) (b : Bool) (t : b ≡ is_assignment sizes plan) where
           tested : is_assignment (sheet_sizes sheet) plan ≡ b
-          tested =
-              sym (t ∙ ap (λ ds. is_assignment ds plan) (sizes_taken (sheet_sizes sheet) read.sizes read.variables known.sizes number))
+          tested = sym (t ∙ ap (λ ds. is_assignment ds plan) d)
 
           pub no_assignment : b ≡ false → refused 8 ≡ readout_call sheet plan v easting northing
           unfolding readout_call
           no_assignment s =
               let x = place_found 8 easting q e east f in
               let y = place_found 9 northing q' e' north f' in
-              rw (known.fine, lt-ltb v (length (sheet_sizes sheet)) inside, x.0, y.0, tested, s)
+              rw (fine, lt-ltb v (length (sheet_sizes sheet)) inside, x.0, y.0, tested, s)
 
           -- the bytes are an assignment
           module _ (s : b ≡ true) where
@@ -90,7 +77,7 @@ module _ (sheet plan : List ℕ) (v easting northing : ℕ) (read : SheetRead) (
             asked =
                 let x = place_found 8 easting q e east f in
                 let y = place_found 9 northing q' e' north f' in
-                (known.fine, ((inside, along_at chosen v inside), (x.2, y.2)))
+                (fine, ((inside, along_at chosen v inside), (x.2, y.2)))
 
             pub metres_read : (m : ℕ) → m ≡ travel (record { easting = east; northing = north }) (position_in sheet v (get_or plan v 0))
                 → good m ≡ readout_call sheet plan v easting northing
@@ -98,4 +85,4 @@ module _ (sheet plan : List ℕ) (v easting northing : ℕ) (read : SheetRead) (
             metres_read m k =
                 let x = place_found 8 easting q e east f in
                 let y = place_found 9 northing q' e' north f' in
-                rw (known.fine, lt-ltb v (length (sheet_sizes sheet)) inside, x.0, y.0, tested, s, ← x.1, ← y.1, ← k)
+                rw (fine, lt-ltb v (length (sheet_sizes sheet)) inside, x.0, y.0, tested, s, ← x.1, ← y.1, ← k)

@@ -1,6 +1,6 @@
 -- The readout call (document 01: the panel's number): whole metres from a position to the assignment's value at a variable.
 use Rattle.std.specs.Prelude.{ℕ, ◌&&◌, cond, List, length, get_or, eqb, ltb}
-use Rattle.fields.specs.declared.Answer.{Answer}
+use Rattle.fields.specs.Answers.{Answer}
 use Rattle.fields.specs.Answers.{refused, good}
 use Rattle.fields.specs.Assignment.{is_assignment}
 use Rattle.sheet.specs.Sheet.{easting_kind, northing_kind, is_easting, is_northing, offset_of, sheet_fault, sheet_sizes}

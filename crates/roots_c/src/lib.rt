@@ -4,7 +4,7 @@
 ghost use Rattle.std.specs.Prelude.{◌≡◌};
 ghost use Rattle.distance.specs.Metres.{metres};
 
-// The metres of a squared distance in square centimetres.
+/// The metres of a squared distance in square centimetres.
 #[unsafe(no_mangle)]
 pub extern "C" fn roots_metres(q: u64) -> u64
     ensures returned { result ≡ metres q }

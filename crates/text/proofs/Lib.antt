@@ -1,3 +1,2 @@
 -- The laws behind the printed text.
-pub mod Putting
-mod Digits
+mod Decimal

@@ -1,3 +1,2 @@
 -- The printed text, as bytes.
 pub mod Text
-pub mod Putting

@@ -1,5 +1,7 @@
 -- The printed text (document 01: the printed plan) as bytes: numbers as plain digits, lines of words parted by a space.
 use Rattle.std.specs.Prelude.{ℕ, zero, suc, ◌+◌, ◌/◌, ◌%◌, cond, List, [], ◌∷◌, ◌++◌, ltb}
+use Rattle.text.specs.declared.Stop.{Stop}
+use Rattle.text.specs.declared.Head.{Head}
 
 -- the decimal digits of a number of at most k digits, the most significant first, none in vain
 unfoldable pub digits_in : ℕ → ℕ → List ℕ
@@ -62,6 +64,15 @@ plan_head cost steps = line (text_plan ∷ []) ++ cost_lines cost steps
 
 abbrev pub accepted_head : ℕ → ℕ → List ℕ
 accepted_head cost steps = line (text_accepted ∷ []) ++ cost_lines cost steps
+
+-- the line of a run that stopped, and the head of an assignment, by their first words
+abbrev pub stopped_line : Stop → ℕ → ℕ → List ℕ
+stopped_line Stop.Paused steps bound = paused_line steps bound
+stopped_line Stop.Full steps bound = full_line steps bound
+
+abbrev pub head_lines : Head → ℕ → ℕ → List ℕ
+head_lines Head.Plan cost steps = plan_head cost steps
+head_lines Head.Accepted cost steps = accepted_head cost steps
 
 -- three numbers
 abbrev pub three_line : ℕ → ℕ → ℕ → List ℕ

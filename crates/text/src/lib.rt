@@ -1,124 +1,130 @@
-// The printed text: numbers and lines put into a buffer behind the bytes that it holds.
+// The printed text: numbers and lines put behind the bytes that a text holds.
 #![tactic(auto)]
 
-ghost use Rattle.std.specs.Prelude.{[], ◌∷◌, ◌+◌, ◌≤◌, length};
-ghost use Rattle.text.specs.Text.{decimal, text_bound, line, refused_line, paused_line, full_line, cost_lines, plan_head, accepted_head, three_line, variable_line};
-ghost use Rattle.text.specs.Putting.{Put};
+ghost use Rattle.std.specs.Prelude.{◌≡◌, ◌+◌, ◌≤◌, ◌++◌, length};
+ghost use Rattle.arrayvec.specs.ArrayVec.{array_vec_len};
+ghost use Rattle.text.specs.Text.{decimal, refused_line, stopped_line, head_lines, three_line, variable_line};
 
-// Bytes as they are.
-pub fn put(out: &mut [u8], at: usize, bytes: &[u8]) -> usize
-    requires { at + length bytes.now ≤ length out.old }
-    ensures { Put out.old at bytes.now out.new result }
+use arrayvec::ArrayVec;
+use itoa::Buffer;
+
+/// The text that a program prints. A head and the lines of twelve variables take 832 bytes at most.
+pub type Text = ArrayVec<u8, 1024>;
+
+/// How a run ended without a plan, as the first word of its line says.
+#[derive(Clone, Copy, Debug, PartialEq, Eq)]
+pub enum Stop {
+    /// The steps that were asked for are made: PAUSED.
+    Paused,
+    /// The table has no room for another row: FULL.
+    Full,
+}
+
+/// What a text of an assignment begins with.
+#[derive(Clone, Copy, Debug, PartialEq, Eq)]
+pub enum Head {
+    /// A plan: PLAN.
+    Plan,
+    /// A verified certificate: ACCEPTED.
+    Accepted,
+}
+
+/// Puts bytes as they are.
+pub fn put<const N: usize>(text: &mut ArrayVec<u8, N>, bytes: &[u8])
+    requires { array_vec_len text.old + length bytes.now ≤ N }
+    ensures { text.new.items ≡ text.old.items ++ bytes.now }
 {
-    let mut i = 0;
-    while i < bytes.len() {
-        out[at + i] = bytes[i];
-        i += 1;
+    text.try_extend_from_slice(bytes).unwrap();
+}
+
+/// Puts a number's decimal digits, 20 at most.
+#[tactic(auto, using(crate::proofs::Decimal::decimal_as_printed, crate::proofs::Decimal::decimal_short))]
+pub fn put_number<const N: usize>(text: &mut ArrayVec<u8, N>, n: u64)
+    requires { array_vec_len text.old + 20 ≤ N }
+    ensures digits { text.new.items ≡ text.old.items ++ decimal n }
+    ensures short { array_vec_len text.new ≤ array_vec_len text.old + 20 }
+{
+    let mut buffer = Buffer::new();
+    put(text, buffer.format(n).as_bytes());
+}
+
+/// Puts the line of a refusal: REFUSED and its number.
+#[tactic(auto, unfolding(crate::specs::Text::line))]
+pub fn put_refused<const N: usize>(text: &mut ArrayVec<u8, N>, number: u32)
+    requires { array_vec_len text.old + 64 ≤ N }
+    ensures line { text.new.items ≡ text.old.items ++ refused_line number }
+    ensures short { array_vec_len text.new ≤ array_vec_len text.old + 64 }
+{
+    put(text, b"REFUSED ");
+    put_number(text, u64::from(number));
+    put(text, b"\n");
+}
+
+/// Puts the line of a run that stopped: PAUSED or FULL, the steps, BOUND and the bound.
+#[tactic(auto, unfolding(crate::specs::Text::line))]
+pub fn put_stopped<const N: usize>(text: &mut ArrayVec<u8, N>, stop: Stop, steps: usize, bound: u64)
+    requires { array_vec_len text.old + 64 ≤ N }
+    ensures line { text.new.items ≡ text.old.items ++ stopped_line stop steps bound }
+    ensures short { array_vec_len text.new ≤ array_vec_len text.old + 64 }
+{
+    match stop {
+        Stop::Paused => put(text, b"PAUSED "),
+        Stop::Full => put(text, b"FULL "),
     }
-    at + i
+    put_number(text, steps as u64);
+    put(text, b" BOUND ");
+    put_number(text, bound);
+    put(text, b"\n");
 }
 
-// A number's digits: those of its tenth, then its last.
-pub fn put_number(out: &mut [u8], at: usize, n: u64) -> usize
-    requires { at + 20 ≤ length out.old }
-    ensures { Put out.old at (decimal n) out.new result × (result ≤ at + 20) }
+/// Puts the head of an assignment: PLAN or ACCEPTED, then COST and STEPS, each on a line of its own.
+#[tactic(auto, unfolding(crate::specs::Text::line))]
+pub fn put_head<const N: usize>(text: &mut ArrayVec<u8, N>, head: Head, cost: u64, steps: usize)
+    requires { array_vec_len text.old + 64 ≤ N }
+    ensures lines { text.new.items ≡ text.old.items ++ head_lines head cost steps }
+    ensures short { array_vec_len text.new ≤ array_vec_len text.old + 64 }
 {
-    if n < 10 {
-        out[at] = (48 + n) as u8;
-        at + 1
-    } else {
-        let last = put_number(out, at, n / 10);
-        out[last] = (48 + n % 10) as u8;
-        last + 1
+    match head {
+        Head::Plan => put(text, b"PLAN\n"),
+        Head::Accepted => put(text, b"ACCEPTED\n"),
     }
+    put(text, b"COST ");
+    put_number(text, cost);
+    put(text, b"\nSTEPS ");
+    put_number(text, steps as u64);
+    put(text, b"\n");
 }
 
-// REFUSED number.
-pub fn put_refused(out: &mut [u8], at: usize, k: u32) -> usize
-    requires { at + 64 ≤ length out.old }
-    ensures { Put out.old at (refused_line k) out.new result × (result ≤ at + 64) }
+/// Puts a line of three numbers.
+#[tactic(auto, unfolding(crate::specs::Text::line))]
+pub fn put_three<const N: usize>(text: &mut ArrayVec<u8, N>, a: u64, b: u64, c: u64)
+    requires { array_vec_len text.old + 64 ≤ N }
+    ensures line { text.new.items ≡ text.old.items ++ three_line a b c }
+    ensures short { array_vec_len text.new ≤ array_vec_len text.old + 64 }
 {
-    let head = put(out, at, b"REFUSED ");
-    let end = put_number(out, head, k as u64);
-    put(out, end, b"\n")
+    put_number(text, a);
+    put(text, b" ");
+    put_number(text, b);
+    put(text, b" ");
+    put_number(text, c);
+    put(text, b"\n");
 }
 
-// The rest of a stopped run's line: steps BOUND b.
-fn put_stopped(out: &mut [u8], at: usize, steps: usize, bound: u64) -> usize
-    requires { at + 48 ≤ length out.old }
-    ensures { Put out.old at (line (decimal steps ∷ text_bound ∷ decimal bound ∷ [])) out.new result × (result ≤ at + 48) }
+/// Puts the line of a variable: its number, its value, and the metres to it.
+pub fn put_variable<const N: usize>(
+    text: &mut ArrayVec<u8, N>,
+    variable: u32,
+    value: u8,
+    metres: u32,
+)
+    requires { array_vec_len text.old + 64 ≤ N }
+    ensures line { text.new.items ≡ text.old.items ++ variable_line variable value metres }
+    ensures short { array_vec_len text.new ≤ array_vec_len text.old + 64 }
 {
-    let counted = put_number(out, at, steps as u64);
-    let word = put(out, counted, b" BOUND ");
-    let end = put_number(out, word, bound);
-    put(out, end, b"\n")
-}
-
-// PAUSED steps BOUND b.
-pub fn put_paused(out: &mut [u8], at: usize, steps: usize, bound: u64) -> usize
-    requires { at + 64 ≤ length out.old }
-    ensures { Put out.old at (paused_line steps bound) out.new result × (result ≤ at + 64) }
-{
-    let head = put(out, at, b"PAUSED ");
-    put_stopped(out, head, steps, bound)
-}
-
-// FULL steps BOUND b.
-pub fn put_full(out: &mut [u8], at: usize, steps: usize, bound: u64) -> usize
-    requires { at + 64 ≤ length out.old }
-    ensures { Put out.old at (full_line steps bound) out.new result × (result ≤ at + 64) }
-{
-    let head = put(out, at, b"FULL ");
-    put_stopped(out, head, steps, bound)
-}
-
-// COST c, STEPS k.
-fn put_cost(out: &mut [u8], at: usize, cost: u64, steps: usize) -> usize
-    requires { at + 53 ≤ length out.old }
-    ensures { Put out.old at (cost_lines cost steps) out.new result × (result ≤ at + 53) }
-{
-    let word = put(out, at, b"COST ");
-    let costed = put_number(out, word, cost);
-    let next = put(out, costed, b"\nSTEPS ");
-    let end = put_number(out, next, steps as u64);
-    put(out, end, b"\n")
-}
-
-// PLAN, COST c, STEPS k.
-pub fn put_plan_head(out: &mut [u8], at: usize, cost: u64, steps: usize) -> usize
-    requires { at + 64 ≤ length out.old }
-    ensures { Put out.old at (plan_head cost steps) out.new result × (result ≤ at + 64) }
-{
-    let first = put(out, at, b"PLAN\n");
-    put_cost(out, first, cost, steps)
-}
-
-// ACCEPTED, COST c, STEPS k.
-pub fn put_accepted_head(out: &mut [u8], at: usize, cost: u64, steps: usize) -> usize
-    requires { at + 64 ≤ length out.old }
-    ensures { Put out.old at (accepted_head cost steps) out.new result × (result ≤ at + 64) }
-{
-    let first = put(out, at, b"ACCEPTED\n");
-    put_cost(out, first, cost, steps)
-}
-
-// A line of three numbers.
-pub fn put_three(out: &mut [u8], at: usize, a: u64, b: u64, c: u64) -> usize
-    requires { at + 64 ≤ length out.old }
-    ensures { Put out.old at (three_line a b c) out.new result × (result ≤ at + 64) }
-{
-    let one = put_number(out, at, a);
-    let first = put(out, one, b" ");
-    let two = put_number(out, first, b);
-    let second = put(out, two, b" ");
-    let three = put_number(out, second, c);
-    put(out, three, b"\n")
-}
-
-// Variable, value, metres.
-pub fn put_variable(out: &mut [u8], at: usize, variable: u32, value: u8, metres: u32) -> usize
-    requires { at + 64 ≤ length out.old }
-    ensures { Put out.old at (variable_line variable value metres) out.new result × (result ≤ at + 64) }
-{
-    put_three(out, at, variable as u64, value as u64, metres as u64)
+    put_three(
+        text,
+        u64::from(variable),
+        u64::from(value),
+        u64::from(metres),
+    );
 }

@@ -21,7 +21,7 @@ use Rattle.making.specs.Made.{made_words, made_entries}
 use Rattle.making.specs.Calls.{make_call}
 use Rattle.making.proofs.Reading.{made_accepted}
 use Rattle.making.proofs.MakeTests.{making, made_in}
-use Rattle.checker.specs.declared.CheckAnswer.{CheckAnswer}
+use Rattle.checker.specs.Answer.{CheckAnswer}
 use Rattle.checker.specs.Theorems.{Best}
 use Rattle.checker.proofs.Claims.{accepted_is_least}
 use Rattle.certificate.specs.Certificate.{stated_plan, stated_cost}

@@ -11,7 +11,7 @@ use Rattle.sheet.proofs.Faults.{sheet_small}
 use Rattle.making.specs.Made.{made_words}
 use Rattle.making.specs.Calls.{Made, make_call}
 use Rattle.making.proofs.MakeTests.{Making, written, too_short, at_fault, making}
-use Rattle.checker.specs.declared.CheckAnswer.{CheckAnswer}
+use Rattle.checker.specs.Answer.{CheckAnswer}
 use Rattle.checker.specs.Theorems.{CheckNumber, success, fault, claim_fails, too_short as too_long}
 use Rattle.checker.proofs.Numbers.{check_numbers}
 use Rattle.certificate.specs.Certificate.{stated_plan, stated_cost, stated_derivation, has_claim}

@@ -9,7 +9,7 @@ use lib.Seq.{take_all, take_at, length-take-le}
 use Rattle.wcsp.specs.Clause.{InRange}
 use Rattle.wcsp.proofs.Lists.{along_length}
 use Rattle.words.specs.Layout.{value_in}
-use Rattle.fields.specs.declared.Answer.{Answer}
+use Rattle.fields.specs.Answers.{Answer}
 use Rattle.fields.specs.Limits.{max_variables}
 use Rattle.sheet.specs.Sheet.{sheet_fault, sheet_sizes}
 use Rattle.littleendian.specs.Words.{words_in, word_at}
@@ -17,7 +17,7 @@ use Rattle.making.specs.Made.{made_words}
 use Rattle.making.specs.Calls.{Made, make_call}
 use Rattle.making.proofs.Reading.{made_accepted}
 use Rattle.making.proofs.MakeTests.{MadeIn, making, made_in}
-use Rattle.checker.specs.declared.CheckAnswer.{CheckAnswer}
+use Rattle.checker.specs.Answer.{CheckAnswer}
 use Rattle.checker.specs.Calls.{CheckReturned, check_call}
 use Rattle.checker.proofs.Claims.{accepted_is_least}
 use Rattle.certificate.specs.declared.Claim.{Claim}
@@ -27,14 +27,13 @@ use Rattle.certificate.proofs.Claims.{Front, front_of}
 use Rattle.listing.specs.Plans.{HoldsPlan}
 use Rattle.listing.proofs.Plans.{range_holds}
 use Rattle.text.specs.Text.{refused_line}
-use Rattle.text.specs.Putting.{Put}
 use Rattle.verifying.specs.Verified.{sheet_words, certificate_room, work_words, length_fault, checked_words, sheet_verdict, verdict_of, accepted_text, answer_text, verified_text, verified}
 use Rattle.verifying.proofs.Verdicts.{claim_missing, claim_stated, stopped_put, goes_put, refused_text, accepted_text_lem, checked_none, checked_claim}
 
 -- ---- the claim
 
-module _ (sheet inst ws out after : List ℕ) (r : ℕ) where
-  pub unclaimed_put : Claim.Nothing ≡ claim_of ws → Put out 0 (refused_line 7) after r → Put out 0 (answer_text sheet ws (checked_words inst ws)) after r
+module _ (sheet inst ws text : List ℕ) where
+  pub unclaimed_put : Claim.Nothing ≡ claim_of ws → text ≡ refused_line 7 → text ≡ answer_text sheet ws (checked_words inst ws)
   unclaimed_put e p =
       let n : ◌≡◌ {A = ℕ} 7 0 → ⊥ = λ z. omega (arith, z) in
       rw (checked_none inst ws (claim_missing ws e), refused_text sheet ws (record { number = 7; steps = 0 }) 7 refl n) p
@@ -72,13 +71,17 @@ module _ (ws : List ℕ) (n cost : ℕ) (stated : Claim.Stated n cost ≡ claim_
           let (h, e, f) = claim_stated ws n cost stated in
           ap (λ c. c.answer) called ∙ rw (behind ws n, plan_is, f, e, checked_claim inst ws h)
 
-      module _ (sheet out after : List ℕ) (r : ℕ) where
-        pub accepted_put : answer.number ≡ 0 → Put out 0 (accepted_text sheet (take n plan) answer.steps cost) after r
-            → Put out 0 (answer_text sheet ws (checked_words inst ws)) after r
-        accepted_put z p =
+      module _ (sheet text : List ℕ) where
+        pub accepted_put : (steps : ℕ) → answer ≡ record { number = 0; steps = steps } → text ≡ accepted_text sheet (take n plan) steps cost
+            → text ≡ answer_text sheet ws (checked_words inst ws)
+        accepted_put steps z p =
             let e = (claim_stated ws n cost stated).2 in
-            let g : (checked_words inst ws).number ≡ 0 = ap (λ a. a.number) (sym answer_is) ∙ z in
-            rw (accepted_text_lem sheet ws (checked_words inst ws) g, ← answer_is, ← e, ← plan_is) p
+            let g : (checked_words inst ws).number ≡ 0 = ap (λ a. a.number) (sym answer_is ∙ z) in
+            let k : steps ≡ (checked_words inst ws).steps = ap (λ a. a.steps) (sym z ∙ answer_is) in
+            rw (accepted_text_lem sheet ws (checked_words inst ws) g, ← k, ← e, ← plan_is) p
+
+        pub failed_put : (k : ℕ) → answer.number ≡ k → (k ≡ 0 → ⊥) → text ≡ refused_line k → text ≡ answer_text sheet ws (checked_words inst ws)
+        failed_put k e m p = p ∙ sym (refused_text sheet ws (checked_words inst ws) k (ap (λ a. a.number) (sym answer_is) ∙ e) m)
 
       -- an accepted assignment holds a value of every variable
       pub accepted_holds : (sheet : List ℕ) → sheet_fault sheet ≡ 0 → inst ≡ made_words sheet → answer.number ≡ 0 → HoldsPlan sheet (take n plan)
@@ -89,35 +92,23 @@ module _ (ws : List ℕ) (n cost : ℕ) (stated : Claim.Stated n cost ≡ claim_
           let many = along_length within in
           range_holds sheet (take n plan) fine (rw (take_all (length (sheet_sizes sheet)) (take n plan) (omega (arith, many))) within)
 
--- the same, by what the check returns
-module _ (inst ws plan : List ℕ) (n cost : ℕ) where
-  abbrev pub check_read : CheckReturned
-  check_read = check_call inst (take (length ws - (n + 3)) (drop (n + 3) ws)) (take n plan) cost (replicate work_words 0)
-
-  pub failed_text : (sheet : List ℕ) → claim_of ws ≡ Claim.Stated n cost → plan ≡ stated_plan ws ++ drop (stated_variables ws) (replicate max_variables 0)
-      → (check_read.answer.number ≡ 0 → ⊥)
-      → answer_text sheet ws (checked_words inst ws) ≡ refused_line check_read.answer.number
-  failed_text sheet e f m =
-      refused_text sheet ws (checked_words inst ws) check_read.answer.number
-      (ap (λ a. a.number) (sym (answer_is ws n cost (sym e) (replicate max_variables 0) plan f inst check_read.table check_read.answer refl))) m
-
 -- ---- the certificate's words
 
-pub read_put : (sheet inst bytes ws out after : List ℕ) (r : ℕ) → ws ≡ words_in bytes → Put out 0 (answer_text sheet ws (checked_words inst ws)) after r
-    → Put out 0 (answer_text sheet (words_in bytes) (checked_words inst (words_in bytes))) after r
-read_put sheet inst bytes ws out after r e p = rw (← e) p
+pub read_put : (sheet inst bytes ws text : List ℕ) → ws ≡ words_in bytes → text ≡ answer_text sheet ws (checked_words inst ws)
+    → text ≡ answer_text sheet (words_in bytes) (checked_words inst (words_in bytes))
+read_put sheet inst bytes ws text e p = rw (← e) p
 
 -- ---- the instance, and the certificate's length
 
-module _ (sheet certificate out after : List ℕ) (r : ℕ) (answer : Answer) (target : List ℕ)
+module _ (sheet certificate text : List ℕ) (answer : Answer) (target : List ℕ)
     (called : ◌≡◌ {A = Made} (record { answer = answer; target = target }) (make_call sheet (replicate sheet_words 0))) where
   number_is : answer.number ≡ (make_call sheet (replicate sheet_words 0)).answer.number
   number_is = ap (λ m. m.answer.number) called
 
-  pub unmade_put : (answer.number ≡ 0 → ⊥) → Put out 0 (refused_line answer.number) after r
-      → Put out 0 (answer_text sheet (words_in certificate) (sheet_verdict sheet certificate)) after r
+  pub unmade_put : (answer.number ≡ 0 → ⊥) → text ≡ refused_line answer.number
+      → text ≡ answer_text sheet (words_in certificate) (sheet_verdict sheet certificate)
   unfolding sheet_verdict
-  unmade_put n p = rw (← number_is) (stopped_put sheet (words_in certificate) out after r answer.number _ n p)
+  unmade_put n p = rw (← number_is) (stopped_put sheet (words_in certificate) text answer.number _ n p)
 
   module _ (good : answer.number ≡ 0) where
     pub stands : MadeIn sheet (replicate sheet_words 0) answer.value target
@@ -126,33 +117,33 @@ module _ (sheet certificate out after : List ℕ) (r : ℕ) (answer : Answer) (t
         let f : target ≡ (make_call sheet (replicate sheet_words 0)).target = ap (λ m. m.target) called in
         rw (e, f) (made_in sheet (replicate sheet_words 0) (make_call sheet (replicate sheet_words 0)) (making sheet (replicate sheet_words 0)) (sym number_is ∙ good))
 
-    pub long_put : (fault : ℕ) → fault ≡ length_fault certificate_room 7 certificate → (fault ≡ 0 → ⊥) → Put out 0 (refused_line fault) after r
-        → Put out 0 (answer_text sheet (words_in certificate) (sheet_verdict sheet certificate)) after r
+    pub long_put : (fault : ℕ) → fault ≡ length_fault certificate_room 7 certificate → (fault ≡ 0 → ⊥) → text ≡ refused_line fault
+        → text ≡ answer_text sheet (words_in certificate) (sheet_verdict sheet certificate)
     unfolding sheet_verdict
     long_put fault e n p =
         rw (← number_is, ← e)
-        (goes_put sheet (words_in certificate) out after r answer.number _ good (stopped_put sheet (words_in certificate) out after r fault _ n p))
+        (goes_put sheet (words_in certificate) text answer.number _ good (stopped_put sheet (words_in certificate) text fault _ n p))
 
     pub made_put : (fault : ℕ) → fault ≡ length_fault certificate_room 7 certificate → fault ≡ 0
-        → Put out 0 (answer_text sheet (words_in certificate) (checked_words (take answer.value target) (words_in certificate))) after r
-        → Put out 0 (answer_text sheet (words_in certificate) (sheet_verdict sheet certificate)) after r
+        → text ≡ answer_text sheet (words_in certificate) (checked_words (take answer.value target) (words_in certificate))
+        → text ≡ answer_text sheet (words_in certificate) (sheet_verdict sheet certificate)
     unfolding sheet_verdict
     made_put fault e z p =
         rw (← number_is, ← e)
-        (goes_put sheet (words_in certificate) out after r answer.number _ good
-        (goes_put sheet (words_in certificate) out after r fault _ z (rw stands.made at p)))
+        (goes_put sheet (words_in certificate) text answer.number _ good
+        (goes_put sheet (words_in certificate) text fault _ z (rw stands.made at p)))
 
 -- ---- the sheet's length
 
-module _ (sheet certificate out after : List ℕ) (r fault : ℕ) (e : fault ≡ length_fault sheet_words 1 sheet) where
-  pub unread_put : (fault ≡ 0 → ⊥) → Put out 0 (refused_line fault) after r → Put out 0 (verified_text sheet certificate) after r
+module _ (sheet certificate text : List ℕ) (fault : ℕ) (e : fault ≡ length_fault sheet_words 1 sheet) where
+  pub unread_put : (fault ≡ 0 → ⊥) → text ≡ refused_line fault → text ≡ verified_text sheet certificate
   unfolding verdict_of
-  unread_put n p = rw (← e) (stopped_put (words_in sheet) (words_in certificate) out after r fault _ n p)
+  unread_put n p = rw (← e) (stopped_put (words_in sheet) (words_in certificate) text fault _ n p)
 
-  pub sheet_put : fault ≡ 0 → (ws : List ℕ) → ws ≡ words_in sheet → Put out 0 (answer_text ws (words_in certificate) (sheet_verdict ws certificate)) after r
-      → Put out 0 (verified_text sheet certificate) after r
+  pub sheet_put : fault ≡ 0 → (ws : List ℕ) → ws ≡ words_in sheet → text ≡ answer_text ws (words_in certificate) (sheet_verdict ws certificate)
+      → text ≡ verified_text sheet certificate
   unfolding verdict_of
-  sheet_put z ws f p = rw (← e, ← f) (goes_put ws (words_in certificate) out after r fault _ z p)
+  sheet_put z ws f p = rw (← e, ← f) (goes_put ws (words_in certificate) text fault _ z p)
 
 -- ---- the program's input
 

@@ -7,17 +7,20 @@ use mathlib.Core.List.{List}
 use lib.ListN.{length, replicate}
 use lib.Dec.{eqb, ltb}
 use borrow.Author.Tests.{eq-eqb, ne_eqb, eqb-true, eqb-false, le-leb, lt-ltb, le-ltb, ltb-false}
+use Rattle.fields.specs.Numbers.{number_of}
+use Rattle.fields.specs.declared.refusals.Fault.TheVariants.{BadHead, BadVariable, BadEntry, CostTooHigh, TooManyEntries}
+use Rattle.fields.specs.declared.refusals.Refusal.{Refusal}
+use Rattle.fields.specs.declared.refusals.Refusal.TheVariants.{Input, BadStep, BadClaim, BadReadout, BadTable, TargetTooShort, WeightTooHigh, TableFull, PairLeft, BadFixed, Forbidden, WeightTooWide}
 use Rattle.littleendian.specs.Words.{words_in}
 use Rattle.sheet.specs.Sheet.{sheet_fault}
 use Rattle.making.specs.Made.{made_words}
 use Rattle.making.specs.Calls.{make_call}
-use Rattle.checker.specs.declared.CheckAnswer.{CheckAnswer}
+use Rattle.checker.specs.Answer.{CheckAnswer}
 use Rattle.checker.specs.Calls.{CheckReturned, check_call}
 use Rattle.certificate.specs.declared.Claim.{Claim}
 use Rattle.certificate.specs.Certificate.{stated_variables, stated_plan, stated_cost, stated_derivation, has_claim}
 use Rattle.certificate.specs.Claim.{claim_of}
 use Rattle.text.specs.Text.{refused_line}
-use Rattle.text.specs.Putting.{Put}
 use Rattle.verifying.specs.Verified.{sheet_words, certificate_room, work_words, length_fault, unless, checked_words, sheet_verdict, verdict_of, accepted_text, answer_text}
 
 -- ---- lengths
@@ -57,6 +60,25 @@ module _ (most odd : ℕ) (bytes : List ℕ) where
 
 -- ---- numbers
 
+-- a refusal has a number
+pub refusal_counts : (r : Refusal) → number_of r ≡ 0 → ⊥
+refusal_counts (Input BadHead) z = omega (arith, z)
+refusal_counts (Input BadVariable) z = omega (arith, z)
+refusal_counts (Input BadEntry) z = omega (arith, z)
+refusal_counts (Input CostTooHigh) z = omega (arith, z)
+refusal_counts (Input TooManyEntries) z = omega (arith, z)
+refusal_counts BadStep z = omega (arith, z)
+refusal_counts BadClaim z = omega (arith, z)
+refusal_counts BadReadout z = omega (arith, z)
+refusal_counts BadTable z = omega (arith, z)
+refusal_counts TargetTooShort z = omega (arith, z)
+refusal_counts WeightTooHigh z = omega (arith, z)
+refusal_counts TableFull z = omega (arith, z)
+refusal_counts PairLeft z = omega (arith, z)
+refusal_counts BadFixed z = omega (arith, z)
+refusal_counts Forbidden z = omega (arith, z)
+refusal_counts WeightTooWide z = omega (arith, z)
+
 pub goes_on : (k : ℕ) (a : CheckAnswer) → k ≡ 0 → unless k a ≡ a
 unfolding unless
 goes_on k a z = rw (eq-eqb k 0 z)
@@ -85,13 +107,13 @@ module _ (sheet ws : List ℕ) where
   unfolding unless
   stopped_text k a n = rw (ne_eqb k 0 n) (refused_text (record { number = k; steps = 0 }) k refl n)
 
-  module _ (out after : List ℕ) (r k : ℕ) (a : CheckAnswer) where
+  module _ (text : List ℕ) (k : ℕ) (a : CheckAnswer) where
     -- the line of a number that ended it
-    pub stopped_put : (k ≡ 0 → ⊥) → Put out 0 (refused_line k) after r → Put out 0 (answer_text sheet ws (unless k a)) after r
+    pub stopped_put : (k ≡ 0 → ⊥) → text ≡ refused_line k → text ≡ answer_text sheet ws (unless k a)
     stopped_put n p = rw (stopped_text k a n) p
 
     -- the text of what comes behind a test that passed
-    pub goes_put : k ≡ 0 → Put out 0 (answer_text sheet ws a) after r → Put out 0 (answer_text sheet ws (unless k a)) after r
+    pub goes_put : k ≡ 0 → text ≡ answer_text sheet ws a → text ≡ answer_text sheet ws (unless k a)
     goes_put z p = rw (goes_on k a z) p
 
 -- ---- the claim

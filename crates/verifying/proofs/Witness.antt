@@ -25,7 +25,7 @@ use Rattle.table.specs.Layout.{capacity_in}
 use Rattle.making.specs.Made.{made_words}
 use Rattle.encoding.specs.Calls.{encode_call}
 use Rattle.stepping.specs.Step.{allowed}
-use Rattle.checker.specs.declared.CheckAnswer.{CheckAnswer}
+use Rattle.checker.specs.Answer.{CheckAnswer}
 use Rattle.checker.specs.Replay.{replay, named_pair, permitted_pair}
 use Rattle.checker.specs.Calls.{check_call, judged, claim_holds}
 use Rattle.certificate.specs.Certificate.{binding_words, certificate_words, has_claim}

@@ -7,7 +7,7 @@ use Rattle.rows.specs.Raw.{row_width}
 use Rattle.table.specs.Layout.{max_rows, rows_at}
 use Rattle.making.specs.Made.{made_words}
 use Rattle.making.specs.Calls.{make_call}
-use Rattle.checker.specs.declared.CheckAnswer.{CheckAnswer}
+use Rattle.checker.specs.Answer.{CheckAnswer}
 use Rattle.checker.specs.Calls.{check_call}
 use Rattle.certificate.specs.Certificate.{stated_plan, stated_cost, stated_derivation, has_claim}
 use Rattle.text.specs.Text.{refused_line, accepted_head}

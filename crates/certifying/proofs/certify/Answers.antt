@@ -14,13 +14,11 @@ pub put_solved-certificate-requires : goal.put_solved-certificate-requires
 put_solved-certificate-requires c =
     record { certifiable = certifiable c.args.bytes.now _ c.solve_bytes-solved.ensures.returned; steps_len_bound = (steps-long _ c.solve_bytes-solved.auto.steps, c.requires) }
 
-pub put_solved-length-requires : goal.put_solved-length-requires
-put_solved-length-requires c =
-    record { listable = listable c.args.bytes.now _ c.solve_bytes-solved.ensures.returned; in_bounds = omega arith }
+pub solved_text-text-requires : goal.solved_text-text-requires
+solved_text-text-requires c = listable c.args.bytes.now _ c.solve_bytes-solved.ensures.returned
 
 pub returns : goal.returns
 returns c =
-    let p = c.put_solved-length.ensures in
     let q = c.put_solved-certificate.ensures in
     let t = text_is c.args.bytes.now _ c.solve_bytes-solved.ensures.returned in
-    (p.0.0 ∙ t, omega (arith, p.0.2, p.1), q.0 ∙ certificate_is c.args.bytes.now _ c.solve_bytes-solved.ensures.returned, q.1)
+    (c.solved_text-text.ensures.text ∙ t, q.0 ∙ certificate_is c.args.bytes.now _ c.solve_bytes-solved.ensures.returned, q.1)

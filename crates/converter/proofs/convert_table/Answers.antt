@@ -1,5 +1,4 @@
 -- `convert_table` meets its contract: it lends the words that it read, and so many zeros as were asked for.
-use Prim.Native.Nat.{◌≤◌}
 use native.Mathlib.Omega.{arith}
 use mathlib.Core.Path.{sym}
 use lib.Seq.{length-take-le}
@@ -12,15 +11,10 @@ slice_bounds-put_converted-end c =
     sym (length-take-le _ _ (omega (arith, w.ensures.1, w.auto.words)))
 
 pub slice_bounds-put_converted-end-2 : goal.slice_bounds-put_converted-end-2
-slice_bounds-put_converted-end-2 c =
-    zeros_long _ 24590 (omega (arith, c.payload-m.ensures.0, c.requires.1))
+slice_bounds-put_converted-end-2 c = zeros_long _ 24590 c.requires.1
 
 pub put_converted-requires : goal.put_converted-requires
-put_converted-requires c =
-    let h : c.payload-m.result ≤ 24590 = omega (arith, c.payload-m.ensures.0, c.requires.1) in
-    (omega (arith, c.requires.2), omega (arith, zeros_long _ 24590 h, c.requires.2))
+put_converted-requires c = (omega (arith, c.requires.2), omega (arith, zeros_long _ 24590 c.requires.1, c.requires.2))
 
 pub returns : goal.returns
-returns c =
-    let h : c.payload-m.result ≤ 24590 = omega (arith, c.payload-m.ensures.0, c.requires.1) in
-    table_put c.args.asked _ _ 24590 c.args.bytes.now _ _ _ c.kind.ensures.0 c.payload-m.ensures.0 h c.read_words-n.ensures.0 c.put_converted.ensures
+returns c = table_put _ _ 24590 c.args.bytes.now _ _ _ c.requires.1 c.read_words-n.ensures.0 c.put_converted.ensures

@@ -9,12 +9,12 @@ returns-then-v-eq0 c = first_metres _ _ _ c.if-v-eq0.true
 
 pub position-start-requires : goal.position-start-requires
 position-start-requires c =
-    let parts = asked _ _ c.requires.holds_plan _ _ (omega arith) c.wide.ensures.0 in
+    let parts = asked _ _ c.requires.holds_plan _ _ (omega arith) c.from.ensures in
     record { sheet_value = parts.0; variable_in_bounds = parts.1 }
 
 pub position-stop-requires : goal.position-stop-requires
 position-stop-requires c =
-    let parts = asked _ _ c.requires.holds_plan _ _ (omega arith) c.wide-2.ensures.0 in
+    let parts = asked _ _ c.requires.holds_plan _ _ (omega arith) c.from-2.ensures in
     record { sheet_value = parts.0; variable_in_bounds = parts.1 }
 
 pub between-requires : goal.between-requires
@@ -26,5 +26,5 @@ between-requires c =
 
 pub returns : goal.returns
 returns c =
-    next-metres _ _ _ _ _ _ _ _ c.if-v-eq0.false c.wide.ensures.0 c.wide-2.ensures.0
+    next-metres _ _ _ _ _ _ _ _ c.if-v-eq0.false c.from.ensures c.from-2.ensures
     c.position-start.ensures c.position-stop.ensures c.between.ensures.0

@@ -1,21 +1,40 @@
--- `put_assignment` puts a line for each variable; how many there are the sheet's head says.
-use native.Mathlib.Omega.{arith}
-use mathlib.Core.Path.{◌≡◌, ◌∙◌}
-use lib.ListN.{length}
-use Rattle.sheet.specs.Sheet.{sheet_sizes}
-use Rattle.listing.proofs.Lines.{lines_put}
+-- `put_assignment` puts a line each turn: those of the variables passed stand behind what the text held. How many there are the sheet's head says.
+use Rattle.std.proofs.Common.{arith, refl, ◌∙◌, ◌≡◌}
+use Rattle.listing.proofs.Lines.{nothing_put, line_put}
 use Rattle.listing.proofs.Plans.{variables_read}
 use Rattle.listing.proofs.put_assignment.Goals as goal
 
-pub put_lines-requires : goal.put_lines-requires
-put_lines-requires c =
-    let v = variables_read _ c.requires.holds_plan.fine in
-    let n : c.variables_of.result ≡ length (sheet_sizes c.args.sheet.now) = c.variables_of.ensures ∙ v.0 in
-    record { holds_plan = c.requires.holds_plan; n_value = (n, omega (arith, v.1), omega (arith, v.1, c.requires.at_in_bounds)) }
+pub loop-v-init : goal.loop-v-init
+loop-v-init g c = (nothing_put c.args.sheet.now c.args.plan.now c.args.text.now.items, omega arith)
 
-pub returns : goal.returns
-returns c =
-    let v = variables_read _ c.requires.holds_plan.fine in
-    let n : c.variables_of.result ≡ length (sheet_sizes c.args.sheet.now) = c.variables_of.ensures ∙ v.0 in
-    let p = c.put_lines.ensures in
-    (lines_put _ _ _ _ c.args.out.now _ _ n p.0, omega (arith, v.1, n))
+pub metres_to-metres-requires : goal.metres_to-metres-requires
+metres_to-metres-requires g c =
+    let p = c.requires.holds_plan in
+    let read = variables_read c.args.sheet.now p.fine in
+    let count = c.variables_of-count.ensures in
+    record { holds_plan = p; v_in_bounds = (omega (arith, read, count), omega (arith, read, count)) }
+
+pub bounds-plan-v : goal.bounds-plan-v
+bounds-plan-v g c =
+    let p = c.requires.holds_plan in
+    omega (arith, p.long, variables_read c.args.sheet.now p.fine, c.variables_of-count.ensures)
+
+pub put_variable-requires : goal.put_variable-requires
+put_variable-requires g c =
+    omega (arith, variables_read c.args.sheet.now c.requires.holds_plan.fine, c.variables_of-count.ensures, c.loop-v.invariant.1)
+
+pub loop-v-preserved : goal.loop-v-preserved
+loop-v-preserved g c =
+    let l = c.loop-v in
+    let p = c.put_variable.ensures in
+    (line_put _ _ _ l.v _ _ _ _ l.invariant.0 refl c.metres_to-metres.ensures p.line, omega arith)
+
+pub returns-clause-lines : goal.returns-clause-lines
+returns-clause-lines g c =
+    let count = c.variables_of-count.ensures ∙ (variables_read c.args.sheet.now c.requires.holds_plan.fine).0 in
+    let last : c.loop-v.v ≡ c.variables_of-count.result = omega arith in
+    rw (← count, ← last) c.loop-v.invariant.0
+
+pub returns-clause-short : goal.returns-clause-short
+returns-clause-short g c =
+    omega (arith, variables_read c.args.sheet.now c.requires.holds_plan.fine, c.variables_of-count.ensures, c.loop-v.invariant.1)

@@ -17,7 +17,7 @@ pub loop-at-preserved : goal.loop-at-preserved
 loop-at-preserved c =
     let l = c.loop-at in
     let bytes = c.args.bytes.now in (
-      fed_piece _ (record { season = l.season; body = l.body }) _ bytes l.at (l.at + c.lesser.result) l.invariant.0 (omega arith) c.feed-season.ensures.returned,
+      fed_piece _ (record { season = l.season; body = l.body }) _ bytes l.at (l.at + c.min.result) l.invariant.0 (omega arith) c.feed-season.ensures.returned,
       c.feed-season.auto.body ∙ l.invariant.1,
       omega arith,
     )

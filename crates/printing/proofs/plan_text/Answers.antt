@@ -1,16 +1,6 @@
--- `plan_text` puts the text of the value of its bytes into a buffer, all zero, and hands it back with the length put there.
-use native.Mathlib.Omega.{arith}
+-- Where the bytes came to a plan, it holds a value of every variable.
 use Rattle.printing.proofs.Plans.{solved_listable}
-use Rattle.printing.proofs.Texts.{printed_put}
 use Rattle.printing.proofs.plan_text.Goals as goal
 
-pub put_solved-length-requires : goal.put_solved-length-requires
-put_solved-length-requires c =
-    record { listable = solved_listable _ _ c.solve-solved.ensures.returned; in_bounds = omega arith }
-
-pub returns : goal.returns
-returns c =
-    record {
-      returned = let p = c.put_solved-length.ensures in
-          printed_put _ _ _ _ c.solve-solved.ensures.returned p.0 p.1;
-    }
+pub solved_text-requires : goal.solved_text-requires
+solved_text-requires c = solved_listable c.args.bytes.now _ c.solve.ensures.returned

@@ -1,76 +1,71 @@
 -- `readout` answers what its definition says: each test in turn, and the metres behind them all.
-use mathlib.Core.Path.{◌∙◌}
-use Rattle.readout.proofs.Answers.{sheet_refused, few_variables, no_variable, no_east, no_north, no_assignment, value_inside, asked, metres_read}
+use Rattle.std.proofs.Common.{◌≡◌, ◌∙◌, ap, sym, Err, rules}
+use Rattle.fields.specs.declared.refusals.Refusal.TheVariants.{Input}
+use Rattle.fields.specs.Answers.{answer_of}
+use Rattle.readout.proofs.Answers.{sheet_refused, no_variable, no_east, no_north, no_assignment, value_inside, asked, metres_read}
 use Rattle.readout.proofs.readout.Goals as goal
 
-pub returns-then-read-ne0 : goal.returns-then-read-ne0
-returns-then-read-ne0 c =
-    record {
-      returned = let a = c.args in
-          let r = c.read_sheet-read in
-          c.refusal.ensures ∙ sheet_refused a.sheet.now a.plan.now a.variable a.easting a.northing r.result r.ensures.returned c.if-read-ne0.true;
-    }
+pub returns-in_err-read : goal.returns-in_err-read
+returns-in_err-read c =
+    let a = c.args in
+    let is : c.from_residual.result ≡ Err (Input c.in_err-read.field-0.0) = search rules in
+    record { returned = ap answer_of is ∙ sheet_refused a.sheet.now a.plan.now a.variable a.easting a.northing _ c.in_err-read.ensures.fault }
 
-pub returns-then-read-variable : goal.returns-then-read-variable
-returns-then-read-variable c =
-    record {
-      returned = let a = c.args in
-          let r = c.read_sheet-read in
-          c.refusal-then-read-variable.ensures ∙ no_variable a.sheet.now a.plan.now a.variable a.easting a.northing r.result r.ensures.returned c.if-read-ne0.false c.if-read-variable.true;
-    }
+pub returns-then-sizes-variable : goal.returns-then-sizes-variable
+returns-then-sizes-variable c =
+    let a = c.args in
+    let r = c.in_ok-read.ensures in
+    record { returned = no_variable a.sheet.now a.plan.now a.variable a.easting a.northing (sym r.fault) _ (c.deref-sizes.ensures.0 ∙ r.accepted.0) c.if-sizes-variable.true }
 
 pub returns-in_default : goal.returns-in_default
 returns-in_default c =
-    record {
-      returned = let r = c.read_sheet-read in
-          let a = c.args in
-          c.refusal-in_default.ensures ∙ no_east a.sheet.now a.plan.now a.variable a.easting a.northing r.result r.ensures.returned c.if-read-ne0.false c.if-read-variable.false _ c.coordinate.ensures c.in_default.is;
+    let a = c.args in
+    let r = c.in_ok-read.ensures in record {
+      returned = no_east a.sheet.now a.plan.now a.variable a.easting a.northing (sym r.fault) _ (c.deref-sizes.ensures.0 ∙ r.accepted.0) c.if-sizes-variable.false
+          _ c.coordinate.ensures c.in_default.is;
     }
 
 pub returns-in_default-coordinate : goal.returns-in_default-coordinate
 returns-in_default-coordinate c =
-    record {
-      returned = let r = c.read_sheet-read in
-          let a = c.args in
-          c.refusal-in_default-coordinate.ensures ∙ no_north a.sheet.now a.plan.now a.variable a.easting a.northing r.result r.ensures.returned c.if-read-ne0.false c.if-read-variable.false _ c.coordinate.ensures
-          _ c.in-At.is _ c.coordinate-2.ensures c.in_default-coordinate.is;
-    }
-
-pub is_assignment-requires : goal.is_assignment-requires
-is_assignment-requires c =
-    let r = c.read_sheet-read in
     let a = c.args in
-    few_variables a.sheet.now a.plan.now a.variable a.easting a.northing r.result r.ensures.returned c.if-read-ne0.false
+    let r = c.in_ok-read.ensures in record {
+      returned = no_north a.sheet.now a.plan.now a.variable a.easting a.northing (sym r.fault) _ (c.deref-sizes.ensures.0 ∙ r.accepted.0) c.if-sizes-variable.false
+          _ c.coordinate.ensures _ c.in-Some.is _ c.coordinate-2.ensures c.in_default-coordinate.is;
+    }
 
 pub returns-then-not-is_assignment : goal.returns-then-not-is_assignment
 returns-then-not-is_assignment c =
-    record {
-      returned = let r = c.read_sheet-read in
-          let a = c.args in
-          c.refusal-then-not-is_assignment.ensures ∙ no_assignment a.sheet.now a.plan.now a.variable a.easting a.northing r.result r.ensures.returned c.if-read-ne0.false c.if-read-variable.false _ c.coordinate.ensures
-          _ c.in-At.is _ c.coordinate-2.ensures _ c.in-At-coordinate.is _ c.is_assignment.ensures c.if-not-is_assignment.true;
+    let a = c.args in
+    let r = c.in_ok-read.ensures in record {
+      returned = no_assignment a.sheet.now a.plan.now a.variable a.easting a.northing (sym r.fault) _ (c.deref-sizes.ensures.0 ∙ r.accepted.0) c.if-sizes-variable.false
+          _ c.coordinate.ensures _ c.in-Some.is _ c.coordinate-2.ensures _ c.in-Some-coordinate.is _ c.is_assignment.ensures c.if-not-is_assignment.true;
     }
 
 pub bounds-plan-variable : goal.bounds-plan-variable
 bounds-plan-variable c =
-    let r = c.read_sheet-read in
     let a = c.args in
-    value_inside a.sheet.now a.plan.now a.variable a.easting a.northing r.result r.ensures.returned c.if-read-ne0.false c.if-read-variable.false _ c.coordinate.ensures
-    _ c.in-At.is _ c.coordinate-2.ensures _ c.in-At-coordinate.is _ c.is_assignment.ensures c.if-not-is_assignment.false
+    let r = c.in_ok-read.ensures in
+    value_inside a.sheet.now a.plan.now a.variable a.easting a.northing (sym r.fault) _ (c.deref-sizes.ensures.0 ∙ r.accepted.0) c.if-sizes-variable.false
+    _ c.coordinate.ensures _ c.in-Some.is _ c.coordinate-2.ensures _ c.in-Some-coordinate.is _ c.is_assignment.ensures c.if-not-is_assignment.false
 
-pub metres_to-metres-requires : goal.metres_to-metres-requires
-metres_to-metres-requires c =
-    let parts = let r = c.read_sheet-read in
+pub metres_to-requires-clause-variable_in_bounds : goal.metres_to-requires-clause-variable_in_bounds
+metres_to-requires-clause-variable_in_bounds c =
     let a = c.args in
-    asked a.sheet.now a.plan.now a.variable a.easting a.northing r.result r.ensures.returned c.if-read-ne0.false c.if-read-variable.false _ c.coordinate.ensures
-    _ c.in-At.is _ c.coordinate-2.ensures _ c.in-At-coordinate.is _ c.is_assignment.ensures c.if-not-is_assignment.false in
-    record { sheet_value = parts.0; variable_in_bounds = parts.1.0; east_le_max_offset = parts.1.1 }
+    let r = c.in_ok-read.ensures in
+    (asked a.sheet.now a.plan.now a.variable a.easting a.northing (sym r.fault) _ (c.deref-sizes.ensures.0 ∙ r.accepted.0) c.if-sizes-variable.false
+    _ c.coordinate.ensures _ c.in-Some.is _ c.coordinate-2.ensures _ c.in-Some-coordinate.is _ c.is_assignment.ensures c.if-not-is_assignment.false).1.0
+
+pub metres_to-requires-clause-east_le_max_offset : goal.metres_to-requires-clause-east_le_max_offset
+metres_to-requires-clause-east_le_max_offset c =
+    let a = c.args in
+    let r = c.in_ok-read.ensures in
+    (asked a.sheet.now a.plan.now a.variable a.easting a.northing (sym r.fault) _ (c.deref-sizes.ensures.0 ∙ r.accepted.0) c.if-sizes-variable.false
+    _ c.coordinate.ensures _ c.in-Some.is _ c.coordinate-2.ensures _ c.in-Some-coordinate.is _ c.is_assignment.ensures c.if-not-is_assignment.false).1.1
 
 pub returns : goal.returns
 returns c =
-    record {
-      returned = let r = c.read_sheet-read in
-          let a = c.args in
-          c.success.ensures ∙ metres_read a.sheet.now a.plan.now a.variable a.easting a.northing r.result r.ensures.returned c.if-read-ne0.false c.if-read-variable.false _ c.coordinate.ensures
-          _ c.in-At.is _ c.coordinate-2.ensures _ c.in-At-coordinate.is _ c.is_assignment.ensures c.if-not-is_assignment.false _ c.metres_to-metres.ensures;
+    let a = c.args in
+    let r = c.in_ok-read.ensures in record {
+      returned = metres_read a.sheet.now a.plan.now a.variable a.easting a.northing (sym r.fault) _ (c.deref-sizes.ensures.0 ∙ r.accepted.0) c.if-sizes-variable.false
+          _ c.coordinate.ensures _ c.in-Some.is _ c.coordinate-2.ensures _ c.in-Some-coordinate.is _ c.is_assignment.ensures c.if-not-is_assignment.false _ c.metres_to.ensures;
     }

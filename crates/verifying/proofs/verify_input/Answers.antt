@@ -9,14 +9,14 @@ pub returns-then-bytes-lt4 : goal.returns-then-bytes-lt4
 returns-then-bytes-lt4 c =
     record {
       returned = let b = c.args.bytes.now in
-          (c.verify_text.ensures.returned.0 ∙ no_length b (omega arith), c.verify_text.ensures.returned.1);
+          c.verify_text.ensures.returned ∙ no_length b (omega arith);
     }
 
 pub returns-then-rest-said : goal.returns-then-rest-said
 returns-then-rest-said c =
     record {
       returned = let b = c.args.bytes.now in
-          (c.verify_text-then-rest-said.ensures.returned.0 ∙ cut_sheet b _ c.word_at-said.ensures c.if-rest-said.true, c.verify_text-then-rest-said.ensures.returned.1);
+          c.verify_text-then-rest-said.ensures.returned ∙ cut_sheet b _ c.word_at-said.ensures c.if-rest-said.true;
     }
 
 pub slice_bounds-verify_text-end-2 : goal.slice_bounds-verify_text-end-2
@@ -26,5 +26,5 @@ pub returns : goal.returns
 returns c =
     record {
       returned = let b = c.args.bytes.now in
-          (c.verify_text-2.ensures.returned.0 ∙ both_whole b _ c.word_at-said.ensures, c.verify_text-2.ensures.returned.1);
+          c.verify_text-2.ensures.returned ∙ both_whole b _ c.word_at-said.ensures;
     }

@@ -1,6 +1,0 @@
--- `is_leading` meets its contract: its tests are those of `leads`, in their order.
-use Rattle.figures.proofs.Counting.{leads-not}
-use Rattle.figures.proofs.is_leading.Goals as goal
-
-pub returns-else-column-eq-PLANNED : goal.returns-else-column-eq-PLANNED
-returns-else-column-eq-PLANNED c = leads-not _ _ _ c.if-column-eq-PLANNED.false
