@@ -21,6 +21,18 @@ FACTS = {
     "full signs": r"FullSigns", "variable below 12": r"\b[vk] < 12\b", "PackedBuffer": r"PackedBuffer", "sheet accepted": r"sheet_?[fF]ault \w+\.now ≡ 0",
     "HoldsPlan": r"HoldsPlan",
 }
+# Of a line of src/: the point that it is a place of, what tells it, and what it is called in the list.
+LINES = [
+    (1, r"^\s*(pub )?enum \w+", ""),
+    (1, r"^\s*(pub )?(number|failed|heavy|answer): (u32|bool|RunAnswer)", "flag or number in a struct: "),
+    (1, r"(Fault|Stops|Refused|refusal|refused|stopped_sizing|refused_stations|put_refused)\((out, 0, )?\d+\)|return (1|2|3|4|5|6|7|8|9|1\d);|number: [1-9]",
+     "refusal by its number: "),
+    (1, r"\b(number|fault|planned|judged) != 0", "test of a number: "),
+    (3, r"^\s*(while|loop)\b|= loop \{", ""),
+    (7, r"match (form|words::kind\(w\)|ending|outcome|found|phase)\b|if form ==", ""),
+    (6, r"^\s*(pub )?(length|count|kept|n|behind|entries_at|variables): usize|^\s*(pub )?\w+: \[u\d+; \w+\],", ""),
+    (6, r"let mut \w+ = \[0(u8|u32|usize)?; ", ""),
+]
 TOGETHER = [("t", "base", "count"), ("sizes", "n"), ("out", "at"), ("buffer", "kept"), ("table", "shape"), ("t", "shape"), ("words", "at"),
             ("instance", "at"), ("sheet", "plan"), ("x", "y", "v", "fulls"), ("plan", "cost"), ("plan", "steps", "cost")]
 
@@ -53,22 +65,9 @@ def count(folder):
         crate = path.split("crates/")[1].split("/")[0]
         for i, line in enumerate(open(path, encoding="utf-8"), 1):
             where = f"{path.split('crates/')[1]}:{i}"
-            if re.match(r"\s*(pub )?enum \w+", line):
-                found[1][crate].append(f"{where} {line.strip()}")
-            if re.match(r"\s*(pub )?(number|failed|heavy|answer): (u32|bool|RunAnswer)", line):
-                found[1][crate].append(f"{where} flag or number in a struct: {line.strip()}")
-            if re.search(r"(Fault|Stops|Refused|refusal|refused|stopped_sizing|refused_stations|put_refused)\((out, 0, )?\d+\)|return (1|2|3|4|5|6|7|8|9|1\d);|number: [1-9]", line):
-                found[1][crate].append(f"{where} refusal by its number: {line.strip()}")
-            if re.search(r"\b(number|fault|planned|judged) != 0", line):
-                found[1][crate].append(f"{where} test of a number: {line.strip()}")
-            if re.match(r"\s*(while|loop)\b", line) or re.search(r"= loop \{", line):
-                found[3][crate].append(f"{where} {line.strip()}")
-            if re.search(r"match (form|words::kind\(w\)|ending|outcome|found|phase)\b|if form ==", line):
-                found[7][crate].append(f"{where} {line.strip()}")
-            if re.match(r"\s*(pub )?(length|count|kept|n|behind|entries_at|variables): usize|\s*(pub )?\w+: \[u\d+; \w+\],", line):
-                found[6][crate].append(f"{where} {line.strip()}")
-            if re.search(r"let mut \w+ = \[0(u8|u32|usize)?; ", line):
-                found[6][crate].append(f"{where} {line.strip()}")
+            for point, pattern, what in LINES:
+                if re.search(pattern, line):
+                    found[point][crate].append(f"{where} {what}{line.strip()}")
     all_functions = list(functions(folder))
     for crate, path, name, head, body in all_functions:
         where = f"{path.split('crates/')[1]} {name}"
