@@ -1,21 +1,17 @@
 -- The entries' words, one after another: what follows from what each does to the scan.
-use Prim.Native.Nat.{ℕ, suc, ◌+◌, ◌≤◌, ◌<◌}
+use Prim.Native.Nat.{ℕ, suc, ◌+◌, ◌<◌}
 use native.Mathlib.Omega.{arith}
-use native.Mathlib.Numerals.{add-one}
-use mathlib.Core.Path.{◌≡◌, refl, sym, ap, ap₂, ◌∙◌}
+use mathlib.Core.Path.{◌≡◌, refl}
 use mathlib.Core.Bool.{Bool, true, false, ◌&&◌, ◌||◌, cond}
 use mathlib.Core.List.{List, [], ◌∷◌, ◌++◌}
-use lib.ListN.{length, get_or, take, drop, length-take, get_or-eq_default}
-use lib.Seq.{get_or-take, drop-drop}
+use lib.ListN.{length, get_or, get_or-eq_default}
 use lib.Dec.{eqb, leb, ltb}
-use denote.Enum.Declared.{tag_of}
-use types.Run.{OneOf, miss}
-use borrow.Author.Tests.{eq-eqb, ne_eqb, eqb-true, eqb-false, le-leb, lt-leb, lt-ltb, le-ltb, leb-true, leb-false}
+use borrow.Author.Tests.{leb-true, leb-false}
 use Rattle.wcsp.specs.Entry.{Binding as Bound}
 use Rattle.words.specs.Layout.{kind_of, payload_of, variable_in, value_in}
 use Rattle.fields.specs.Limits.{max_cost, max_entries}
 use Rattle.fields.specs.Entries.{closes_entry, cost_of, entries_from}
-use Rattle.entries.specs.Entries.{Scanned, goes, stops, scan_binding, scan_closing, scan_cost, scan_forbidden, scan_word, resume, entries_fault}
+use Rattle.entries.specs.Entries.{goes, stops, scan_binding, scan_closing, scan_cost, scan_forbidden, scan_word}
 
 -- a variable with a size is known
 pub known : (ds : List ℕ) (v a : ℕ) → a < get_or ds v 0 → v < length ds

@@ -9,7 +9,6 @@ use lib.Dec.{eqb}
 use Rattle.std.specs.Prelude.{Ok, Err, IfOk}
 use Rattle.words.specs.declared.Word.{Word}
 use Rattle.words.specs.declared.Word.TheVariants.{Binding, Cost, Forbidden}
-use Rattle.words.specs.Layout.{kind_of, payload_of}
 use Rattle.words.specs.Meaning.{word_of}
 use Rattle.words.proofs.Said.{by_word}
 use Rattle.fields.specs.declared.refusals.Fault.TheVariants.{BadEntry}

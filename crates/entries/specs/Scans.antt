@@ -1,4 +1,4 @@
--- What a scan of entries' words answers in code: the state behind a word, or a fault.
+-- Inner: what a scan of entries' words answers in code, the state behind a word or a fault; no statement for users rests on it.
 use Rattle.std.specs.Prelude.{ℕ, cond, Result, Ok, Err, eqb}
 use Rattle.fields.specs.declared.refusals.Fault.{Fault}
 use Rattle.fields.specs.declared.refusals.Fault.TheVariants.{BadEntry}

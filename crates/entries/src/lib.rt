@@ -4,6 +4,7 @@
 ghost use Rattle.std.specs.Prelude.{◌≡◌, ◌+◌, [], length, IfOk};
 ghost use Rattle.fields.specs.Numbers.{fault_in};
 ghost use Rattle.fields.specs.Entries.{entries_from};
+ghost use Rattle.reader.specs.Left.{words_left};
 ghost use Rattle.entries.specs.Entries.{entries_fault};
 
 use fields::refusals::Fault;
@@ -75,8 +76,8 @@ impl Scan {
 
 /// The number of entries in the words that are left, those before counted, or the fault nearest the front.
 pub fn scan_entries(reader: Reader, sizes: &[u8], before: u32) -> Result<u32, Fault>
-    ensures fault { fault_in result ≡ entries_fault sizes.now 0 before reader.entry }
-    ensures number { IfOk result (λ k. k ≡ before + length (entries_from [] reader.entry)) }
+    ensures fault { fault_in result ≡ entries_fault sizes.now 0 before (words_left reader.entry) }
+    ensures number { IfOk result (λ k. k ≡ before + length (entries_from [] (words_left reader.entry))) }
 {
     let mut state = Scan {
         from: 0,

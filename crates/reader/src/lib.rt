@@ -2,51 +2,46 @@
 #![tactic(auto)]
 
 ghost use Rattle.std.specs.Prelude.{◌≡◌, length};
-ghost use Rattle.std.specs.Iterator.{YieldsFirst, item_count};
+ghost use Rattle.std.specs.Iterator.{item_count};
+ghost use Rattle.reader.specs.Left.{words_left, GivesWord};
 
-use std::marker::Model;
-
-/// The words of a caller that are still to be read: an iterator over them that is handed on by `&mut` from one part of a
-/// reading to the next.
-#[derive(Drop)]
+/// The caller's words and how far they are read: an iterator over those that are left, which is handed on by `&mut` from one
+/// part of a reading to the next.
+#[derive(Clone, Copy)]
 pub struct Reader<'a> {
-    words: &'a [u32],
-    at: usize,
-}
-
-// Clauses see the words that are left.
-impl<'a> Model for Reader<'a> {
-    ghost use Rattle.std.specs.Prelude.{ℕ, List, drop, ◌≤◌, length};
-
-    ghost Value = { List ℕ };
-
-    ghost view = { λ r. drop r.at r.words.now };
-
-    ghost invariant = { λ r. r.at ≤ length r.words.now };
+    pub words: &'a [u32],
+    pub at: usize,
 }
 
 impl<'a> Reader<'a> {
     /// A reader of which all words are left.
     pub fn over(words: &'a [u32]) -> Reader<'a>
-        ensures { result ≡ words.now }
+        ensures { words_left result ≡ words.now }
     {
         Reader { words, at: 0 }
     }
 
+    /// A reader that has come up to an index. Past the end of the words it has none left.
+    pub fn come_to(words: &'a [u32], at: usize) -> Reader<'a>
+        ensures { (result.words ≡ words.entry) × (result.at ≡ at) }
+    {
+        Reader { words, at }
+    }
+
     /// How many words are left.
     pub fn left(&self) -> usize
-        ensures { result ≡ length self.now }
+        ensures { result ≡ length (words_left self.now) }
     {
-        self.words.len() - self.at
+        self.words.len().saturating_sub(self.at)
     }
 }
 
 impl<'a> Iterator for Reader<'a> {
     type Item = u32;
 
-    ghost next_gives = { YieldsFirst (λ rest. rest) };
+    ghost next_gives = { GivesWord };
 
-    ghost remaining = { item_count (λ rest. rest) };
+    ghost remaining = { item_count words_left };
 
     fn next(&mut self) -> Option<u32> {
         if self.words.len() <= self.at {

@@ -1,0 +1,2 @@
+-- What a reader has still to read.
+pub mod Left
