@@ -12,7 +12,7 @@ ghost use Rattle.planning.specs.Solving.{solved_of};
 ghost use Rattle.cutting.specs.Pieces.{end_of};
 ghost use Rattle.batch.specs.Feeding.{started_season, counted_sheet, behind_sheet, after_found, season_takes, fed, is_cut, finished_figures, finished_line};
 
-use arrayvec::ArrayVec;
+use bytelist::ByteList;
 use cutting::{Found, Phase};
 use fields::refusals::Refusal;
 use figures::Figures;
@@ -28,7 +28,7 @@ pub struct Season {
 }
 
 /// The line of a season's figures, 295 bytes at most.
-pub type Line = ArrayVec<u8, 512>;
+pub type Line = ByteList<512>;
 
 /// The columns of what is refused under 1, 10, 12 and 15, of what is paused and of what is full.
 const CUT_OFF: usize = 1;
@@ -182,8 +182,8 @@ impl Season {
     pub fn finish(self) -> Line
         ensures returned { result.items ≡ finished_line self }
     {
-        let mut line = Line::new();
-        figures::line::put_figures(&mut line, &self.finished());
-        line
+        let mut bytes = [0u8; 512];
+        let length = figures::line::put_figures(self.finished(), &mut bytes);
+        Line::front(bytes, length)
     }
 }

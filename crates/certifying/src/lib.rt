@@ -19,7 +19,7 @@ use verifying::WORK_WORDS;
 const MOST_STEPS: usize = 200000;
 
 /// What is written of a sheet.
-#[derive(Drop)]
+#[derive(Clone, Copy)]
 pub struct Certified {
     /// The text that is printed.
     pub text: Text,
@@ -77,6 +77,10 @@ pub fn certify(bytes: &[u8], out: &mut [u8]) -> Certified
     let mut steps = [0u32; MOST_STEPS];
     let solved = planning::solve_bytes(bytes, MOST_STEPS, &mut instance, &mut table, &mut steps);
     let certificate = put_solved(bytes, solved, &steps, out);
-    let text = printing::solved_text(bytes, &solved);
-    Certified { text, certificate }
+    let mut text = [0u8; 1024];
+    let length = printing::put_solved(bytes, solved, &mut text);
+    Certified {
+        text: Text::front(text, length),
+        certificate,
+    }
 }

@@ -19,7 +19,7 @@ use Rattle.table.proofs.FormTables.{PassedIn, passed, length_sizes, room_rows}
 use Rattle.table.proofs.FormTables as forms
 use Rattle.table.proofs.RawRows.{table_laws}
 use Rattle.table.specs.Five.{five_form}
-use Rattle.table.specs.FiveLaws.{five_laws}
+use Rattle.table.proofs.FiveLaws.{five_laws}
 use Rattle.conversion.specs.Calls.{ConvertReturned, convert_call}
 use Rattle.conversion.specs.Theorems.{KeepsIn, BackIn}
 use Rattle.conversion.proofs.Theorems.{good_of, of_good, conversions}

@@ -8,7 +8,6 @@ ghost use Rattle.littleendian.specs.Words.{words_in};
 ghost use Rattle.text.specs.Text.{refused_line};
 ghost use Rattle.converter.specs.Converted.{most_words, form_number, wanted_form, wanted_words, request_fault, converted_in, answer_bytes, table_bytes, converted_bytes};
 
-use arrayvec::ArrayVec;
 use fields::refusals::Refusal;
 use std::io::Print;
 
@@ -83,11 +82,7 @@ fn put_refusal(number: u32, out: &mut [u8]) -> usize
     requires { 64 ≤ length out.old }
     ensures { (take result out.new ≡ refused_line number) × (result ≤ 64) × (length out.new ≡ length out.old) }
 {
-    let mut line: ArrayVec<u8, 64> = ArrayVec::new();
-    text::put_refused(&mut line, number);
-    let length = line.len();
-    out[..length].copy_from_slice(&line);
-    length
+    text::put_refused(out, 0, number)
 }
 
 /// What is printed of a call's answer: the bytes of the target, or the line of a refusal.

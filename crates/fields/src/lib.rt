@@ -12,7 +12,7 @@ ghost use Rattle.fields.specs.Front.{front_words};
 ghost use Rattle.fields.specs.Entries.{cost_of};
 ghost use Rattle.fields.specs.Assignment.{is_assignment};
 
-use arrayvec::ArrayVec;
+use bytelist::ByteList;
 use words::Word;
 use words::kinds::Kind;
 
@@ -32,7 +32,7 @@ pub const MAX_COST: u32 = 65535;
 pub const FORBIDDEN_COST: u32 = 268431361;
 
 /// The sizes of a field's variables, one for each: how many values it can have, 1 to 8.
-pub type Sizes = ArrayVec<u8, 12>;
+pub type Sizes = ByteList<MAX_VARIABLES>;
 
 /// Writes the head and the size words of variables of these sizes to the front of a slice that they fit into.
 #[tactic(auto, using(crate::proofs::Fronts::sizes_next, crate::proofs::Fronts::sizes_end))]

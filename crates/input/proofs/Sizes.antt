@@ -1,18 +1,17 @@
 -- The fault of an instance comes apart into that of the sizes and that of the entries.
-use Prim.Native.Nat.{ℕ, zero, suc, ◌+◌, ◌-◌, ◌≤◌, ◌<◌, min}
+use Prim.Native.Nat.{ℕ, zero, suc, ◌≤◌}
 use native.Mathlib.Omega.{arith}
 use mathlib.Core.Path.{◌≡◌, refl, sym, ap, ◌∙◌}
 use mathlib.Core.Bool.{Bool, true, false, not, ◌&&◌, cond}
 use mathlib.Core.List.{List, [], ◌∷◌, ◌++◌, map, append-nil}
-use lib.ListN.{length, take, drop, set, replicate, length-drop}
-use lib.Seq.{append_snoc, drop-drop}
+use lib.ListN.{take, drop}
+use lib.Seq.{append_snoc}
 use lib.Dec.{eqb}
-use borrow.Author.Tests.{eqb-false, ne_eqb, ltb-true, ltb-false}
+use borrow.Author.Tests.{eqb-false}
 use Rattle.words.specs.Layout.{payload_of}
-use Rattle.fields.specs.Limits.{max_variables, max_values}
+use Rattle.fields.specs.Limits.{max_values}
 use Rattle.fields.specs.Front.{size_in, good_sizes}
-use Rattle.fields.specs.Padding.{padded}
-use Rattle.fields.proofs.Fronts.{size_some, good_long}
+use Rattle.fields.proofs.Fronts.{size_some}
 use Rattle.entries.specs.Entries.{entries_fault}
 use Rattle.input.specs.Instance.{stations_fault}
 

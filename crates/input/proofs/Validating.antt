@@ -1,25 +1,20 @@
 -- What an instance that starts with a head has: its sizes and entries by the head, and the fault of its parts.
-use Prim.Native.Nat.{ℕ, zero, suc, ◌+◌, ◌≤◌, min}
+use Prim.Native.Nat.{ℕ, ◌+◌, ◌≤◌, min}
 use native.Mathlib.Omega.{arith}
 use native.Mathlib.Numerals.{add-one}
-use mathlib.Core.Path.{◌≡◌, refl, sym, ap, subst, ◌∙◌}
-use mathlib.Core.Bool.{true, false, cond}
+use mathlib.Core.Path.{◌≡◌, refl, sym, ap, ◌∙◌}
+use mathlib.Core.Bool.{true, cond}
 use mathlib.Core.List.{List, [], ◌∷◌, map}
 use mathlib.Core.Option.{Option, none, some}
 use lib.ListN.{length, get_or, take, drop, length-map}
 use lib.Seq.{length-take-le}
-use lib.Dec.{eqb}
-use borrow.Author.Tests.{ne_eqb}
 use Rattle.words.specs.Layout.{payload_of}
 use Rattle.fields.specs.Limits.{max_variables}
 use Rattle.fields.specs.Front.{head_in, headed, good_sizes}
 use Rattle.fields.specs.Entries.{entries_from}
-use Rattle.fields.specs.Padding.{padded}
 use Rattle.fields.proofs.Fronts.{head_some, good_long}
-use Rattle.fields.proofs.Padding.{padded-front}
-use Rattle.fields.proofs.Faults.{no_fault, some-fault}
 use Rattle.entries.specs.Entries.{entries_fault}
-use Rattle.input.specs.Instance.{stations_fault, instance_fault, sizes_of, entries_of}
+use Rattle.input.specs.Instance.{instance_fault, sizes_of, entries_of}
 use Rattle.input.proofs.Sizes.{stations_apart}
 
 -- ---- a head that was read

@@ -1,4 +1,4 @@
--- What the readers of the words in front of the entries answer.
+-- Inner: what the readers of the words in front of the entries answer; no statement for users rests on it.
 use Rattle.std.specs.Prelude.{ℕ, cond, List, [], ◌∷◌, Result, Ok, Err, eqb}
 use Rattle.fields.specs.declared.refusals.Fault.{Fault}
 use Rattle.fields.specs.declared.refusals.Fault.TheVariants.{BadHead, BadVariable}

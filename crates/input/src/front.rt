@@ -4,6 +4,7 @@ ghost use Rattle.words.specs.Layout.{payload_of};
 ghost use Rattle.fields.specs.Limits.{max_variables, max_values};
 ghost use Rattle.fields.specs.Front.{good_sizes};
 ghost use Rattle.fields.specs.Numbers.{fault_number, fault_in};
+ghost use Rattle.reader.specs.Left.{words_left};
 ghost use Rattle.entries.specs.Entries.{entries_fault};
 ghost use Rattle.input.specs.Instance.{stations_fault};
 ghost use Rattle.input.specs.Heads.{head_read, size_read};
@@ -16,8 +17,8 @@ use words::Word;
 /// The number of variables that the next word gives as a head, 0 where there are no words at all.
 #[tactic(auto, using(crate::proofs::Heads::head_said))]
 pub fn read_head(reader: &mut Reader) -> Result<u32, Fault>
-    ensures head { result ≡ head_read reader.old }
-    ensures left { reader.new ≡ drop 1 reader.old }
+    ensures head { result ≡ head_read (words_left reader.old) }
+    ensures left { words_left reader.new ≡ drop 1 (words_left reader.old) }
 {
     let Some(word) = reader.next() else {
         return Ok(0);
@@ -34,9 +35,9 @@ pub fn read_head(reader: &mut Reader) -> Result<u32, Fault>
 /// The size of a variable that the next word gives.
 #[tactic(auto, using(crate::proofs::Heads::size_said))]
 pub fn read_size(reader: &mut Reader) -> Result<u32, Fault>
-    ensures size { result ≡ size_read reader.old }
+    ensures size { result ≡ size_read (words_left reader.old) }
     ensures small { IfOk result (λ d. d ≤ max_values) }
-    ensures left { reader.new ≡ drop 1 reader.old }
+    ensures left { words_left reader.new ≡ drop 1 (words_left reader.old) }
 {
     let Some(word) = reader.next() else {
         return Err(Fault::BadVariable);
@@ -51,14 +52,14 @@ pub fn read_size(reader: &mut Reader) -> Result<u32, Fault>
 }
 
 /// The sizes of n variables, from the next words.
-#[tactic(auto, using(crate::proofs::Heads::sizes_stop, crate::proofs::Heads::sizes_done))]
+#[tactic(auto, using(crate::proofs::Heads::sizes_stop, crate::proofs::Heads::sizes_done, crate::proofs::Heads::good_stop, crate::proofs::Heads::good_done))]
 pub fn read_sizes(reader: &mut Reader, n: usize) -> Result<Sizes, Fault>
     requires { n ≤ max_variables }
-    ensures fault { IfErr result (λ f. fault_number f ≡ stations_fault n [] reader.old) }
-    ensures sized { fault_in result ≡ cond (good_sizes n reader.old) 0 2 }
-    ensures good { IfOk result (λ s. stations_fault n [] reader.old ≡ entries_fault s.items 0 0 reader.new) }
-    ensures sizes { IfOk result (λ s. s.items ≡ map payload_of (take n reader.old)) }
-    ensures left { IfOk result (λ s. reader.new ≡ drop n reader.old) }
+    ensures fault { IfErr result (λ f. fault_number f ≡ stations_fault n [] (words_left reader.old)) }
+    ensures sized { fault_in result ≡ cond (good_sizes n (words_left reader.old)) 0 2 }
+    ensures good { IfOk result (λ s. stations_fault n [] (words_left reader.old) ≡ entries_fault s.items 0 0 (words_left reader.new)) }
+    ensures sizes { IfOk result (λ s. s.items ≡ map payload_of (take n (words_left reader.old))) }
+    ensures left { IfOk result (λ s. words_left reader.new ≡ drop n (words_left reader.old)) }
 {
     let mut sizes = Sizes::new();
     for _ in 0..n {

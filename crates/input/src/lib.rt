@@ -13,7 +13,7 @@ use fields::refusals::Fault;
 use reader::Reader;
 
 /// An accepted instance.
-#[derive(Drop)]
+#[derive(Clone, Copy)]
 pub struct Instance {
     /// The sizes of its variables.
     pub sizes: Sizes,

@@ -1,16 +1,20 @@
 -- The lines of the variables: put one by one from the first on.
-use Rattle.std.proofs.Common.{arith, sym, ap, ◌∙◌, append_assoc}
-use Rattle.std.specs.Prelude.{ℕ, zero, suc, ◌+◌, ◌≡◌, List, ◌++◌, get_or}
-use mathlib.Core.List.{append-nil}
+use Prim.Native.Nat.{ℕ, zero, suc, ◌+◌}
 use native.Mathlib.Nat.{zero-add}
 use native.Mathlib.Numerals.{add-one}
+use native.Mathlib.Omega.{arith}
+use mathlib.Core.Path.{◌≡◌, refl, sym, ap}
+use mathlib.Core.List.{List, [], ◌++◌, append_assoc, append-nil}
+use lib.ListN.{length, get_or, take}
 use Rattle.text.specs.Text.{variable_line}
-use Rattle.listing.specs.Listed.{metres_to, variable_lines}
+use Rattle.text.specs.Putting.{Put}
+use Rattle.text.proofs.Putting.{put_put}
+use Rattle.sheet.specs.Sheet.{sheet_sizes}
+use Rattle.listing.specs.Listed.{metres_to, variable_lines, assignment_lines}
 
--- no line is put yet
-pub nothing_put : (sheet plan start : List ℕ) → start ≡ start ++ variable_lines sheet plan 0 0
-unfolding variable_lines
-nothing_put sheet plan start = sym (append-nil start)
+-- no bytes put
+pub nothing_put : (out : List ℕ) (at : ℕ) → Put out at [] out at
+nothing_put out at = (sym (append-nil (take at out)), omega arith, refl)
 
 module _ (sheet plan : List ℕ) where
   line_of : ℕ → List ℕ
@@ -25,10 +29,14 @@ module _ (sheet plan : List ℕ) where
       rw (e, append_assoc) (ap (λ (l : List ℕ). line_of v ++ l) (lines_next (suc v) k))
 
   -- the lines before v are put, and then that of v
-  pub line_put : (start : List ℕ) (v : ℕ) (middle : List ℕ) (a m : ℕ) (after : List ℕ) → middle ≡ start ++ variable_lines sheet plan 0 v
-      → a ≡ get_or plan v 0 → m ≡ metres_to sheet plan v → after ≡ middle ++ variable_line v a m
-      → after ≡ start ++ variable_lines sheet plan 0 (v + 1)
+  pub line_put : (out : List ℕ) (at v : ℕ) (middle : List ℕ) (between a m : ℕ) (after : List ℕ) (end : ℕ)
+      → Put out at (variable_lines sheet plan 0 v) middle between → a ≡ get_or plan v 0 → m ≡ metres_to sheet plan v
+      → Put middle between (variable_line v a m) after end → Put out at (variable_lines sheet plan 0 (v + 1)) after end
   unfolding line_of
-  line_put start v middle a m after p e f q =
-      rw (add-one v, lines_next 0 v, zero-add v, ← e, ← f)
-      (q ∙ ap (λ (l : List ℕ). l ++ variable_line v a m) p ∙ append_assoc start (variable_lines sheet plan 0 v) (variable_line v a m))
+  line_put out at v middle between a m after end p e f q =
+      rw (add-one v, lines_next 0 v, zero-add v, ← e, ← f) (put_put out at _ middle between _ after end p q)
+
+-- the lines of all variables, by the number that the head says
+pub lines_put : (sheet plan : List ℕ) (n at : ℕ) (out after : List ℕ) (end : ℕ) → n ≡ length (sheet_sizes sheet)
+    → Put out at (variable_lines sheet plan 0 n) after end → Put out at (assignment_lines sheet plan) after end
+lines_put sheet plan n at out after end e p = rw (← e) p

@@ -1,15 +1,15 @@
-// The lines of an assignment put into a text: each variable with its value and the whole metres to it.
+// The lines of an assignment put into a buffer: each variable with its value and the whole metres to it.
 #![tactic(auto)]
 
-ghost use Rattle.std.specs.Prelude.{◌≡◌, ◌+◌, ◌≤◌, ◌<◌, ◌++◌, length, get_or};
-ghost use Rattle.arrayvec.specs.ArrayVec.{array_vec_len};
+ghost use Rattle.std.specs.Prelude.{◌≡◌, ◌+◌, ◌≤◌, ◌<◌, length, get_or};
 ghost use Rattle.words.specs.Layout.{payload_of};
 ghost use Rattle.fields.specs.Limits.{max_variables};
+ghost use Rattle.text.specs.Putting.{Put};
 ghost use Rattle.sheet.specs.Sheet.{sheet_sizes};
 ghost use Rattle.listing.specs.Listed.{metres_to, assignment_lines};
 ghost use Rattle.listing.specs.Plans.{HoldsPlan};
 
-use arrayvec::ArrayVec;
+pub use text::Text;
 
 /// Whole metres to a variable's value from the value of the variable before it; 0 for the first.
 fn metres_to(sheet: &[u32], plan: &[u8], v: usize) -> u32
@@ -38,15 +38,16 @@ fn variables_of(sheet: &[u32]) -> usize
 
 /// Puts a line for each variable of an accepted sheet: its number, the plan's value, and the metres from the value before. A line takes
 /// 64 bytes at most, and twelve 768.
-pub fn put_assignment<const N: usize>(text: &mut ArrayVec<u8, N>, sheet: &[u32], plan: &[u8])
+pub fn put_assignment(sheet: &[u32], plan: &[u8], out: &mut [u8], at: usize) -> usize
     requires holds_plan { HoldsPlan sheet.now plan.now }
-    requires in_bounds { array_vec_len text.old + 768 ≤ N }
-    ensures lines { text.new.items ≡ text.old.items ++ assignment_lines sheet.now plan.now }
-    ensures short { array_vec_len text.new ≤ array_vec_len text.old + 768 }
+    requires at_in_bounds { at + 768 ≤ length out.old }
+    ensures { Put out.old at (assignment_lines sheet.now plan.now) out.new result × (result ≤ at + 768) }
 {
+    let mut end = at;
     let count = variables_of(sheet);
     for v in 0..count {
         let metres = metres_to(sheet, plan, v);
-        text::put_variable(text, v as u32, plan[v], metres);
+        end = text::put_variable(out, end, v as u32, plan[v], metres);
     }
+    end
 }

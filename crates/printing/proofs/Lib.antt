@@ -2,3 +2,4 @@
 pub mod Meaning
 pub mod Empty
 pub mod Plans
+pub mod Texts

@@ -17,7 +17,7 @@ use input::front::read_head;
 use reader::Reader;
 
 /// A sheet that was read: the sizes of its variables, and the index of its first entry word.
-#[derive(Drop)]
+#[derive(Clone, Copy)]
 pub struct Sheet {
     pub sizes: Sizes,
     pub entries_at: usize,

@@ -2,6 +2,7 @@
 ghost use Rattle.std.specs.Prelude.{◌≡◌, ◌+◌, ◌*◌, ◌≤◌, cond, map, length, drop, IfOk, OnOk};
 ghost use Rattle.fields.specs.Limits.{max_variables};
 ghost use Rattle.fields.specs.Numbers.{fault_in};
+ghost use Rattle.reader.specs.Left.{words_left};
 ghost use Rattle.sheet.specs.Sheet.{leg_count, stations_from, behind_stations};
 ghost use Rattle.sheet.specs.Phases.{good_stations, coordinate_next, station_next};
 
@@ -17,8 +18,8 @@ use reader::Reader;
 ///
 /// `BadVariable` where the next word is no such coordinate within the range, or there is none.
 fn read_coordinate(reader: &mut Reader, kind: u32) -> Result<u32, Fault>
-    ensures coordinate { result ≡ coordinate_next kind reader.old }
-    ensures left { reader.new ≡ drop 1 reader.old }
+    ensures coordinate { result ≡ coordinate_next kind (words_left reader.old) }
+    ensures left { words_left reader.new ≡ drop 1 (words_left reader.old) }
 {
     let Some(word) = reader.next() else {
         return Err(Fault::BadVariable);
@@ -35,8 +36,8 @@ fn read_coordinate(reader: &mut Reader, kind: u32) -> Result<u32, Fault>
 ///
 /// `BadVariable` where a word is missing, of a wrong kind or out of range.
 fn read_station(reader: &mut Reader) -> Result<u32, Fault>
-    ensures size { result ≡ station_next reader.old }
-    ensures left { IfOk result (λ d. reader.new ≡ drop (1 + 2 * d) reader.old) }
+    ensures size { result ≡ station_next (words_left reader.old) }
+    ensures left { IfOk result (λ d. words_left reader.new ≡ drop (1 + 2 * d) (words_left reader.old)) }
 {
     let size = read_size(reader)?;
     for _ in 0..size {
@@ -51,11 +52,12 @@ fn read_station(reader: &mut Reader) -> Result<u32, Fault>
 /// # Errors
 ///
 /// `BadVariable` where a word is missing, of a wrong kind or out of range.
+#[tactic(auto, unfolding(crate::specs::Phases::good_stations, crate::specs::Sheet::stations_from, crate::specs::Sheet::behind_stations))]
 pub fn read_stations(reader: &mut Reader, n: usize) -> Result<Sizes, Fault>
     requires { n ≤ max_variables }
-    ensures fault { fault_in result ≡ cond (good_stations n reader.old) 0 2 }
-    ensures sizes { IfOk result (λ v. v.items ≡ map length (stations_from n reader.old)) }
-    ensures left { OnOk result (reader.new ≡ behind_stations n reader.old) }
+    ensures fault { fault_in result ≡ cond (good_stations n (words_left reader.old)) 0 2 }
+    ensures sizes { IfOk result (λ v. v.items ≡ map length (stations_from n (words_left reader.old))) }
+    ensures left { OnOk result (words_left reader.new ≡ behind_stations n (words_left reader.old)) }
 {
     let mut sizes = Sizes::new();
     for _ in 0..n {

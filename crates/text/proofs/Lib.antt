@@ -1,2 +1,3 @@
 -- The laws behind the printed text.
-mod Decimal
+pub mod Putting
+mod Digits

@@ -1,2 +1,3 @@
 -- The printed text, as bytes.
 pub mod Text
+pub mod Putting

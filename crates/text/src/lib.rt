@@ -1,15 +1,14 @@
-// The printed text: numbers and lines put behind the bytes that a text holds.
+// The printed text: numbers and lines put into a buffer behind the bytes that it holds.
 #![tactic(auto)]
 
-ghost use Rattle.std.specs.Prelude.{◌≡◌, ◌+◌, ◌≤◌, ◌++◌, length};
-ghost use Rattle.arrayvec.specs.ArrayVec.{array_vec_len};
+ghost use Rattle.std.specs.Prelude.{◌+◌, ◌≤◌, length};
 ghost use Rattle.text.specs.Text.{decimal, refused_line, stopped_line, head_lines, three_line, variable_line};
+ghost use Rattle.text.specs.Putting.{Put};
 
-use arrayvec::ArrayVec;
-use itoa::Buffer;
+use bytelist::ByteList;
 
 /// The text that a program prints. A head and the lines of twelve variables take 832 bytes at most.
-pub type Text = ArrayVec<u8, 1024>;
+pub type Text = ByteList<1024>;
 
 /// How a run ended without a plan, as the first word of its line says.
 #[derive(Clone, Copy, Debug, PartialEq, Eq)]
@@ -30,101 +29,94 @@ pub enum Head {
 }
 
 /// Puts bytes as they are.
-pub fn put<const N: usize>(text: &mut ArrayVec<u8, N>, bytes: &[u8])
-    requires { array_vec_len text.old + length bytes.now ≤ N }
-    ensures { text.new.items ≡ text.old.items ++ bytes.now }
+pub fn put(out: &mut [u8], at: usize, bytes: &[u8]) -> usize
+    requires { at + length bytes.now ≤ length out.old }
+    ensures { Put out.old at bytes.now out.new result }
 {
-    text.try_extend_from_slice(bytes).unwrap();
+    let end = at + bytes.len();
+    out[at..end].copy_from_slice(bytes);
+    end
 }
 
-/// Puts a number's decimal digits, 20 at most.
-#[tactic(auto, using(crate::proofs::Decimal::decimal_as_printed, crate::proofs::Decimal::decimal_short))]
-pub fn put_number<const N: usize>(text: &mut ArrayVec<u8, N>, n: u64)
-    requires { array_vec_len text.old + 20 ≤ N }
-    ensures digits { text.new.items ≡ text.old.items ++ decimal n }
-    ensures short { array_vec_len text.new ≤ array_vec_len text.old + 20 }
+/// Puts a number's decimal digits, 20 at most: those of its tenth, then its last.
+pub fn put_number(out: &mut [u8], at: usize, n: u64) -> usize
+    requires { at + 20 ≤ length out.old }
+    ensures { Put out.old at (decimal n) out.new result × (result ≤ at + 20) }
 {
-    let mut buffer = Buffer::new();
-    put(text, buffer.format(n).as_bytes());
+    if n < 10 {
+        out[at] = (48 + n) as u8;
+        at + 1
+    } else {
+        let last = put_number(out, at, n / 10);
+        out[last] = (48 + n % 10) as u8;
+        last + 1
+    }
 }
 
 /// Puts the line of a refusal: REFUSED and its number.
-#[tactic(auto, unfolding(crate::specs::Text::line))]
-pub fn put_refused<const N: usize>(text: &mut ArrayVec<u8, N>, number: u32)
-    requires { array_vec_len text.old + 64 ≤ N }
-    ensures line { text.new.items ≡ text.old.items ++ refused_line number }
-    ensures short { array_vec_len text.new ≤ array_vec_len text.old + 64 }
+pub fn put_refused(out: &mut [u8], at: usize, number: u32) -> usize
+    requires { at + 64 ≤ length out.old }
+    ensures { Put out.old at (refused_line number) out.new result × (result ≤ at + 64) }
 {
-    put(text, b"REFUSED ");
-    put_number(text, u64::from(number));
-    put(text, b"\n");
+    let head = put(out, at, b"REFUSED ");
+    let end = put_number(out, head, u64::from(number));
+    put(out, end, b"\n")
 }
 
 /// Puts the line of a run that stopped: PAUSED or FULL, the steps, BOUND and the bound.
-#[tactic(auto, unfolding(crate::specs::Text::line))]
-pub fn put_stopped<const N: usize>(text: &mut ArrayVec<u8, N>, stop: Stop, steps: usize, bound: u64)
-    requires { array_vec_len text.old + 64 ≤ N }
-    ensures line { text.new.items ≡ text.old.items ++ stopped_line stop steps bound }
-    ensures short { array_vec_len text.new ≤ array_vec_len text.old + 64 }
+pub fn put_stopped(out: &mut [u8], at: usize, stop: Stop, steps: usize, bound: u64) -> usize
+    requires { at + 64 ≤ length out.old }
+    ensures { Put out.old at (stopped_line stop steps bound) out.new result × (result ≤ at + 64) }
 {
-    match stop {
-        Stop::Paused => put(text, b"PAUSED "),
-        Stop::Full => put(text, b"FULL "),
-    }
-    put_number(text, steps as u64);
-    put(text, b" BOUND ");
-    put_number(text, bound);
-    put(text, b"\n");
+    let head = match stop {
+        Stop::Paused => put(out, at, b"PAUSED "),
+        Stop::Full => put(out, at, b"FULL "),
+    };
+    let counted = put_number(out, head, steps as u64);
+    let word = put(out, counted, b" BOUND ");
+    let end = put_number(out, word, bound);
+    put(out, end, b"\n")
 }
 
 /// Puts the head of an assignment: PLAN or ACCEPTED, then COST and STEPS, each on a line of its own.
-#[tactic(auto, unfolding(crate::specs::Text::line))]
-pub fn put_head<const N: usize>(text: &mut ArrayVec<u8, N>, head: Head, cost: u64, steps: usize)
-    requires { array_vec_len text.old + 64 ≤ N }
-    ensures lines { text.new.items ≡ text.old.items ++ head_lines head cost steps }
-    ensures short { array_vec_len text.new ≤ array_vec_len text.old + 64 }
+pub fn put_head(out: &mut [u8], at: usize, head: Head, cost: u64, steps: usize) -> usize
+    requires { at + 64 ≤ length out.old }
+    ensures { Put out.old at (head_lines head cost steps) out.new result × (result ≤ at + 64) }
 {
-    match head {
-        Head::Plan => put(text, b"PLAN\n"),
-        Head::Accepted => put(text, b"ACCEPTED\n"),
-    }
-    put(text, b"COST ");
-    put_number(text, cost);
-    put(text, b"\nSTEPS ");
-    put_number(text, steps as u64);
-    put(text, b"\n");
+    let first = match head {
+        Head::Plan => put(out, at, b"PLAN\n"),
+        Head::Accepted => put(out, at, b"ACCEPTED\n"),
+    };
+    let word = put(out, first, b"COST ");
+    let costed = put_number(out, word, cost);
+    let next = put(out, costed, b"\nSTEPS ");
+    let end = put_number(out, next, steps as u64);
+    put(out, end, b"\n")
 }
 
 /// Puts a line of three numbers.
-#[tactic(auto, unfolding(crate::specs::Text::line))]
-pub fn put_three<const N: usize>(text: &mut ArrayVec<u8, N>, a: u64, b: u64, c: u64)
-    requires { array_vec_len text.old + 64 ≤ N }
-    ensures line { text.new.items ≡ text.old.items ++ three_line a b c }
-    ensures short { array_vec_len text.new ≤ array_vec_len text.old + 64 }
+pub fn put_three(out: &mut [u8], at: usize, a: u64, b: u64, c: u64) -> usize
+    requires { at + 64 ≤ length out.old }
+    ensures { Put out.old at (three_line a b c) out.new result × (result ≤ at + 64) }
 {
-    put_number(text, a);
-    put(text, b" ");
-    put_number(text, b);
-    put(text, b" ");
-    put_number(text, c);
-    put(text, b"\n");
+    let one = put_number(out, at, a);
+    let first = put(out, one, b" ");
+    let two = put_number(out, first, b);
+    let second = put(out, two, b" ");
+    let three = put_number(out, second, c);
+    put(out, three, b"\n")
 }
 
 /// Puts the line of a variable: its number, its value, and the metres to it.
-pub fn put_variable<const N: usize>(
-    text: &mut ArrayVec<u8, N>,
-    variable: u32,
-    value: u8,
-    metres: u32,
-)
-    requires { array_vec_len text.old + 64 ≤ N }
-    ensures line { text.new.items ≡ text.old.items ++ variable_line variable value metres }
-    ensures short { array_vec_len text.new ≤ array_vec_len text.old + 64 }
+pub fn put_variable(out: &mut [u8], at: usize, variable: u32, value: u8, metres: u32) -> usize
+    requires { at + 64 ≤ length out.old }
+    ensures { Put out.old at (variable_line variable value metres) out.new result × (result ≤ at + 64) }
 {
     put_three(
-        text,
+        out,
+        at,
         u64::from(variable),
         u64::from(value),
         u64::from(metres),
-    );
+    )
 }

@@ -14,11 +14,12 @@ pub put_solved-certificate-requires : goal.put_solved-certificate-requires
 put_solved-certificate-requires c =
     record { certifiable = certifiable c.args.bytes.now _ c.solve_bytes-solved.ensures.returned; steps_len_bound = (steps-long _ c.solve_bytes-solved.auto.steps, c.requires) }
 
-pub solved_text-text-requires : goal.solved_text-text-requires
-solved_text-text-requires c = listable c.args.bytes.now _ c.solve_bytes-solved.ensures.returned
+pub put_solved-length-requires : goal.put_solved-length-requires
+put_solved-length-requires c =
+    record { listable = listable c.args.bytes.now _ c.solve_bytes-solved.ensures.returned; in_bounds = omega arith }
 
 pub returns : goal.returns
 returns c =
     let q = c.put_solved-certificate.ensures in
     let t = text_is c.args.bytes.now _ c.solve_bytes-solved.ensures.returned in
-    (c.solved_text-text.ensures.text ∙ t, q.0 ∙ certificate_is c.args.bytes.now _ c.solve_bytes-solved.ensures.returned, q.1)
+    (c.front.ensures ∙ c.put_solved-length.ensures.0.0 ∙ t, q.0 ∙ certificate_is c.args.bytes.now _ c.solve_bytes-solved.ensures.returned, q.1)

@@ -51,7 +51,7 @@ returns-in_err-scan_entries-clause-fault c =
     let h = headed_of _ _ (c.in_ok-variables.ensures.head ∙ ap head_read c.over-reader.ensures) in
     let passed = c.in_ok-variables.ensures.left ∙ ap (drop 1) c.over-reader.ensures in
     let sizes = c.in_ok-sizes.ensures in
-    ap fault_in is ∙ scanned _ _ h _ passed _ sizes.left _ sizes.sizes (stations_fine _ sizes.fault) _ _ _ _ c.deref-2.ensures.0 c.count_legs.ensures.0 c.deref.ensures.0 c.in_err-scan_entries.ensures.fault
+    ap fault_in is ∙ scanned _ _ h _ passed _ sizes.left _ sizes.sizes (stations_fine _ sizes.fault) _ _ _ _ c.deref-2.ensures.0 (omega (arith, c.count_legs.ensures.0)) c.deref.ensures.0 c.in_err-scan_entries.ensures.fault
 
 pub returns-in_err-scan_entries-clause-returned : goal.returns-in_err-scan_entries-clause-returned
 returns-in_err-scan_entries-clause-returned c =
@@ -59,7 +59,7 @@ returns-in_err-scan_entries-clause-returned c =
     let h = headed_of _ _ (c.in_ok-variables.ensures.head ∙ ap head_read c.over-reader.ensures) in
     let passed = c.in_ok-variables.ensures.left ∙ ap (drop 1) c.over-reader.ensures in
     let sizes = c.in_ok-sizes.ensures in
-    ap read_of is ∙ reads_fault _ _ (scanned _ _ h _ passed _ sizes.left _ sizes.sizes (stations_fine _ sizes.fault) _ _ _ _ c.deref-2.ensures.0 c.count_legs.ensures.0 c.deref.ensures.0 c.in_err-scan_entries.ensures.fault)
+    ap read_of is ∙ reads_fault _ _ (scanned _ _ h _ passed _ sizes.left _ sizes.sizes (stations_fine _ sizes.fault) _ _ _ _ c.deref-2.ensures.0 (omega (arith, c.count_legs.ensures.0)) c.deref.ensures.0 c.in_err-scan_entries.ensures.fault)
 
 -- no fault
 pub returns-clause-fault : goal.returns-clause-fault
@@ -67,7 +67,7 @@ returns-clause-fault c =
     let h = headed_of _ _ (c.in_ok-variables.ensures.head ∙ ap head_read c.over-reader.ensures) in
     let passed = c.in_ok-variables.ensures.left ∙ ap (drop 1) c.over-reader.ensures in
     let sizes = c.in_ok-sizes.ensures in
-    scanned _ _ h _ passed _ sizes.left _ sizes.sizes (stations_fine _ sizes.fault) _ _ _ _ c.deref-2.ensures.0 c.count_legs.ensures.0 c.deref.ensures.0 c.in_ok-scan_entries.ensures.fault
+    scanned _ _ h _ passed _ sizes.left _ sizes.sizes (stations_fine _ sizes.fault) _ _ _ _ c.deref-2.ensures.0 (omega (arith, c.count_legs.ensures.0)) c.deref.ensures.0 c.in_ok-scan_entries.ensures.fault
 
 pub returns-clause-accepted : goal.returns-clause-accepted
 returns-clause-accepted c =
@@ -83,7 +83,7 @@ returns-clause-returned c =
     let h = headed_of _ _ (c.in_ok-variables.ensures.head ∙ ap head_read c.over-reader.ensures) in
     let passed = c.in_ok-variables.ensures.left ∙ ap (drop 1) c.over-reader.ensures in
     let sizes = c.in_ok-sizes.ensures in
-    reads_sheet _ _
-    (sym (scanned _ _ h _ passed _ sizes.left _ sizes.sizes (stations_fine _ sizes.fault) _ _ _ _ c.deref-2.ensures.0 c.count_legs.ensures.0 c.deref.ensures.0 c.in_ok-scan_entries.ensures.fault))
+    reads_sheet _ (record { sizes = c.in_ok-sizes.sizes; entries_at = length c.args.words.now - c.left.result })
+    (sym (scanned _ _ h _ passed _ sizes.left _ sizes.sizes (stations_fine _ sizes.fault) _ _ _ _ c.deref-2.ensures.0 (omega (arith, c.count_legs.ensures.0)) c.deref.ensures.0 c.in_ok-scan_entries.ensures.fault))
     (sizes_read _ _ h _ passed _ sizes.left _ sizes.sizes (stations_fine _ sizes.fault))
     (ap (λ k. length c.args.words.now - k) (c.left.ensures ∙ ap length (entries_left _ _ h _ passed _ sizes.left).0))

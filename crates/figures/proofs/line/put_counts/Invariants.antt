@@ -1,10 +1,9 @@
--- `put_counts` puts a count and a space each turn: those of the counts passed stand behind what the text held, 21 bytes for each at most.
-use Rattle.std.specs.Prelude.{◌≡◌, ◌+◌, ◌*◌, ◌≤◌, ◌++◌, take}
-use Rattle.arrayvec.specs.ArrayVec.{array_vec_len}
+-- `put_counts` puts a count and a space each turn: those of the counts passed stand behind what the buffer held, 21 bytes for each at most.
+use Prim.Native.Nat.{◌+◌, ◌*◌, ◌≤◌}
+use lib.ListN.{take}
+use Rattle.text.specs.Putting.{Put}
 use Rattle.figures.specs.Line.{spaced}
 use Rattle.figures.proofs.line.put_counts.Given as goal
 
 abbrev pub invariant-loop-count : goal.invariant-loop-count
-invariant-loop-count g l =
-    (l.text.items ≡ l.initial.text.items ++ spaced (take l.count-index l.counts))
-    × (array_vec_len l.text ≤ array_vec_len l.initial.text + 21 * l.count-index)
+invariant-loop-count l = Put l.initial.out l.at (spaced (take l.count-index l.counts)) l.out l.end × (l.end ≤ l.at + 21 * l.count-index)

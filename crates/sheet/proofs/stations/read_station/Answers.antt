@@ -1,6 +1,7 @@
 -- `read_station` answers the size of its station word where the positions of all values follow.
 use Rattle.std.proofs.Common.{◌≡◌, ◌∙◌, ◌*◌, ap, drop, Err, rules}
 use Rattle.std.proofs.lemmas.List.{drop-drop}
+use Rattle.reader.specs.Left.{words_left}
 use Rattle.sheet.proofs.OneStation.{station_none, station_ended, station_whole, no_easting, no_northing, positions_more, positions_end}
 use Rattle.sheet.proofs.stations.read_station.Goals as goal
 
@@ -36,4 +37,4 @@ returns-clause-size c =
 pub returns-clause-left : goal.returns-clause-left
 returns-clause-left c =
     let good = positions_end _ _ _ _ c.loop.invariant c.loop-test.false c.loop.auto.counter-end in
-    good.1 ∙ ap (drop (2 * c.in_ok-size.size)) c.in_ok-size.ensures.left ∙ drop-drop (2 * c.in_ok-size.size) 1 c.args.reader.now
+    good.1 ∙ ap (drop (2 * c.in_ok-size.size)) c.in_ok-size.ensures.left ∙ drop-drop (2 * c.in_ok-size.size) 1 (words_left c.args.reader.now)

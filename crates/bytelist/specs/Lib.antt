@@ -1,0 +1,2 @@
+-- Lists of bytes of a fixed room.
+pub mod Items
