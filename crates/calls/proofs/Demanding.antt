@@ -18,7 +18,7 @@ use Rattle.table.proofs.FormTables.{passed, length_sizes}
 use Rattle.table.proofs.RawRows.{table_laws}
 use Rattle.encoding.specs.Calls.{encoded_rows}
 use Rattle.table.specs.Five.{five_form}
-use Rattle.table.specs.FiveLaws.{five_laws}
+use Rattle.table.proofs.FiveLaws.{five_laws}
 use Rattle.conversion.specs.Calls.{to_six_call}
 use Rattle.conversion.proofs.Theorems.{converts_by, by_tests, five_light}
 use Rattle.calls.specs.Calls.{State, after_calls}

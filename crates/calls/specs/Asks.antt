@@ -1,4 +1,4 @@
--- What a call word asks for, as the code reads it: its kind, and what it lends.
+-- Inner: what a call word asks for, as the code reads it, its kind and what it lends; no statement for users rests on it.
 use Rattle.std.specs.Prelude.{ℕ, cond, eqb}
 use Rattle.words.specs.Layout.{kind_of, payload_of}
 use Rattle.calls.specs.declared.Ask.{Ask}

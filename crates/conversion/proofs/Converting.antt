@@ -1,6 +1,6 @@
 -- A conversion from one form to another: what each return leaves is what the definition says, by the answers of the calls that it makes. One law for
 -- each way out, for any two forms.
-use Prim.Native.Nat.{ℕ, ◌+◌, ◌-◌, ◌*◌, ◌<◌, ◌≤◌}
+use Prim.Native.Nat.{ℕ, ◌+◌, ◌-◌, ◌*◌, ◌/◌, ◌<◌, ◌≤◌, min}
 use native.Mathlib.Nat.{mul-zero}
 use native.Mathlib.Omega.{arith}
 use mathlib.Core.Path.{◌≡◌, sym, ap, ap₂, subst, ◌∙◌}
@@ -18,7 +18,7 @@ use Rattle.fields.specs.Padding.{lacking}
 use Rattle.rows.specs.Form.{LaidIn, LeftIn}
 use Rattle.table.specs.declared.Shape.{Shape}
 use Rattle.table.specs.Form.{TableForm}
-use Rattle.table.specs.Layout.{rows_at, capacity_in, table_words_in}
+use Rattle.table.specs.Layout.{max_rows, rows_at, capacity_in, table_words_in}
 use Rattle.table.specs.Meaning.{variables_of, table_sizes, row_count, rows_from_in, table_rows_in, own_rows_in}
 use Rattle.table.specs.Valid.{valid_table_in}
 use Rattle.table.specs.Check.{shape_of, check_table_in}
@@ -26,6 +26,7 @@ use Rattle.table.specs.TableLaws.{TableLaws}
 use Rattle.table.proofs.FormTables.{PassedIn, passed, length_sizes, length_rows, passed_room, room_rows, length_words, twelve_is_canonical}
 use Rattle.table.proofs.FormFinishing.{laid_words, finished}
 use Rattle.table.proofs.Tested.{table_invalid_in}
+use Rattle.table.proofs.Checking.{roomy}
 use Rattle.table.proofs.Own.{own_widens_in, own_wide_in, own_count_in, words_wide_in}
 use Rattle.conversion.proofs.Starting.{none-started}
 use Rattle.conversion.specs.Calls.{ConvertReturned, convert_call}
@@ -46,6 +47,11 @@ pub not_a_table : (f g : TableForm) (source target : List ℕ) (checked : Option
     → (r : Answer) → r ≡ refused 9 → Converted f g source target r target
 unfolding convert_call
 not_a_table f g source target checked told i r e = refusing 9 r e (rw (table_invalid_in f source checked told i))
+
+-- ---- the room of a slice as long as the target, for rows as wide as the form's
+
+pub target_room : (g : TableForm) (w l len n room : ℕ) → room ≡ min max_rows ((l - rows_at n) / w) → w ≡ g.rows.width → l ≡ len → room ≡ capacity_in g len n
+target_room g w l len n room q wide long = roomy g w len n room (q ∙ ap (λ k. min max_rows ((k - rows_at n) / w)) long) wide
 
 -- ---- a valid source, with its shape
 

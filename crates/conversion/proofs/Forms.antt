@@ -26,7 +26,7 @@ use Rattle.table.proofs.FormTables.{passed}
 use Rattle.table.proofs.RawRows.{table_laws}
 use Rattle.table.proofs.Own.{own_count_in}
 use Rattle.table.specs.Five.{five_form}
-use Rattle.table.specs.FiveLaws.{five_laws}
+use Rattle.table.proofs.FiveLaws.{five_laws}
 use Rattle.conversion.specs.Theorems.{OneFormWithRows, BothWithoutRows}
 
 -- ---- with rows

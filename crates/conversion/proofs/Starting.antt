@@ -1,6 +1,6 @@
 -- A target started: the first words of the source copied in front of zeros, and the row count 0 behind them. From a table's words that is the table
 -- of the same sizes without rows, in any form.
-use Prim.Native.Nat.{ℕ, suc, ◌+◌, ◌-◌, ◌*◌, ◌<◌, ◌≤◌}
+use Prim.Native.Nat.{ℕ, suc, ◌+◌, ◌-◌, ◌*◌, ◌<◌}
 use native.Mathlib.Nat.{mul-zero}
 use native.Mathlib.Numerals.{add-one}
 use native.Mathlib.Omega.{arith}

@@ -22,7 +22,7 @@ use Rattle.table.proofs.FormTables.{passed, length_sizes}
 use Rattle.table.proofs.RawRows.{table_laws}
 use Rattle.table.proofs.Own.{valid_is_canonical_in, written_reads_back_in, own_count_in}
 use Rattle.table.specs.Five.{five_max_weight, five_form}
-use Rattle.table.specs.FiveLaws.{five_laws}
+use Rattle.table.proofs.FiveLaws.{five_laws}
 use Rattle.conversion.specs.Calls.{ConvertReturned, convert_call}
 use Rattle.conversion.specs.Theorems.{KeepsIn, BackIn, Conversions}
 

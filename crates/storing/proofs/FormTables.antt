@@ -151,11 +151,11 @@ module _ (f : Form) (law : FormLaws f) where
       (ap (λ m. take m t ++ (f.words q ++ drop (m + f.width) t)) place))
 
   -- where the width is read from elsewhere
-  pub row_lent_wide : (w : ℕ) → w ≡ f.width → (t : List ℕ) (base count : ℕ) (q : f.Raw) (part : List ℕ) → LaidIn f t base (raws_from_in f count (drop base t))
+  pub row_lent_wide : (w : ℕ) (t : List ℕ) (base count : ℕ) (q : f.Raw) (part : List ℕ) → LaidIn f t base (raws_from_in f count (drop base t))
       → base + f.width * count + f.width ≤ length t
-      → part ≡ f.words q ++ drop f.width (take (length t - (base + w * count)) (drop (base + w * count) t))
+      → part ≡ f.words q ++ drop f.width (take (length t - (base + w * count)) (drop (base + w * count) t)) → w ≡ f.width
       → LeftIn f t base (put_mid (base + w * count) (length t - (base + w * count)) t part) (raws_from_in f count (drop base t) ++ (q ∷ []))
-  row_lent_wide w e t base count q part l room p = rw e (row_lent t base count q part l room (rw e at p))
+  row_lent_wide w t base count q part l room p e = rw e (row_lent t base count q part l room (rw e at p))
 
   -- ---- the last row cleared
 

@@ -9,6 +9,7 @@ ghost use Rattle.storing.specs.Adding.{added, Addable};
 
 use clause::Clause;
 use rows::{HIGH_UNIT, WIDTH};
+pub use table::forms::write_signs;
 use table::forms::{RowForm, Six};
 
 /// The weight of the row whose words start at this place, behind its sign words.

@@ -194,18 +194,16 @@ module _ (f : TableForm) (t : List ℕ) where
 -- ---- the capacity, the rows and the zeros
 
 -- of rows as wide as the form's
-module _ (f : TableForm) (w : ℕ) (wide : w ≡ f.rows.width) where
-  pub roomy : (len n room : ℕ) → room ≡ min max_rows ((len - rows_at n) / w) → room ≡ capacity_in f len n
+module _ (f : TableForm) where
+  pub roomy : (w len n room : ℕ) → room ≡ min max_rows ((len - rows_at n) / w) → w ≡ f.rows.width → room ≡ capacity_in f len n
   unfolding capacity_in
-  roomy len n room q = q ∙ ap (λ v. min max_rows ((len - rows_at n) / v)) wide
+  roomy w len n room q wide = q ∙ ap (λ v. min max_rows ((len - rows_at n) / v)) wide
 
-  pub rows_end : (v len n count room : ℕ) → v ≡ f.rows.width → rows_at n ≤ len → room ≡ min max_rows ((len - rows_at n) / w) → count ≤ room → n + 2 + v * count ≤ len
-  rows_end v len n count room e h q l =
-      let fits : count ≤ capacity_in f len n = omega (arith, roomy len n room q) in
-      rw e (room_rows f len n count h fits)
+  pub rows_end : (v len n count : ℕ) → rows_at n ≤ len → count ≤ capacity_in f len n → v ≡ f.rows.width → n + 2 + v * count ≤ len
+  rows_end v len n count h fits e = rw e (room_rows f len n count h fits)
 
-  pub zeros_from : (t : List ℕ) (n count : ℕ) (z : Bool) → z ≡ all_zero (drop (n + 2 + w * count) t) → z ≡ all_zero (drop (n + 2 + f.rows.width * count) t)
-  zeros_from t n count z q = q ∙ ap (λ v. all_zero (drop (n + 2 + v * count) t)) wide
+  pub zeros_from : (t : List ℕ) (w n count : ℕ) (z : Bool) → z ≡ all_zero (drop (n + 2 + w * count) t) → w ≡ f.rows.width → z ≡ all_zero (drop (n + 2 + f.rows.width * count) t)
+  zeros_from t w n count z q wide = q ∙ ap (λ v. all_zero (drop (n + 2 + v * count) t)) wide
 
 module _ (f : TableForm) (t : List ℕ) (shape : Shape) (front : Front t shape) where
   abbrev behind : List ℕ

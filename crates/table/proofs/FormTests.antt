@@ -21,6 +21,7 @@ use Rattle.table.specs.Meaning.{rows_from_in}
 use Rattle.table.specs.Valid.{valid_row_in, rows_valid_in, has_signs, distinct_rows}
 use Rattle.table.proofs.ValidParts.{absent_rows, rows_absent}
 use Rattle.table.specs.TableLaws.{TableLaws}
+use Rattle.table.specs.SignLaws.{SignLaws}
 use Rattle.table.proofs.FormRows.{length-rows_from, row_at}
 
 -- ---- distinct rows by their places
@@ -165,7 +166,7 @@ module _ (f : TableForm) (law : TableLaws f) where
 
 -- ---- the signs of the row in front of what starts at a place
 
-pub signs_front : (f : TableForm) → TableLaws f → (t : List ℕ) (at : ℕ) → (f.row_of (f.rows.read (drop at t) 0)).signs ≡ signs_of (clause_in (raw_at t at))
-signs_front f law t at =
+pub signs_front : (f : TableForm) → TableLaws f → SignLaws f → (t : List ℕ) (at : ℕ) → (f.row_of (f.rows.read (drop at t) 0)).signs ≡ signs_of (clause_in (raw_at t at))
+signs_front f law own t at =
     let here : at + 0 ≡ at = omega arith in
-    ap (λ r. (f.row_of r).signs) (law.form.read_drop t at 0 ∙ ap (λ i. f.rows.read t i) here) ∙ law.signs t at
+    ap (λ r. (f.row_of r).signs) (law.form.read_drop t at 0 ∙ ap (λ i. f.rows.read t i) here) ∙ own.signs t at

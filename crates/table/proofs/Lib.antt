@@ -21,3 +21,4 @@ pub mod Reading
 pub mod Weighing
 pub mod Held
 pub mod Own
+pub mod FiveLaws

@@ -1,22 +1,17 @@
 -- The rows of a table of six-word rows, and what each says.
 use Prim.Native.Nat.{ℕ, zero, suc, ◌+◌, ◌*◌, ◌<◌, ◌≤◌}
-use mathlib.Core.Path.{◌≡◌, refl, ap, ◌∙◌}
-use mathlib.Core.Bool.{true}
-use mathlib.Core.List.{List, [], ◌∷◌, ◌++◌, map}
+use mathlib.Core.Path.{◌≡◌, ap, ◌∙◌}
+use mathlib.Core.List.{List, [], ◌∷◌, map}
 use lib.ListN.{length, get_or, drop}
 use Rattle.wcsp.specs.Row.{Row}
 use Rattle.wcsp.specs.Resolve.{no_row}
 use Rattle.clause.specs.Packed.{signs_of}
-use Rattle.rows.specs.Raw.{row_width, max_weight, Raw, no_raw, raw_words, raw_at, weight_in, row_weighs, sign_words, raw_row, clause_in}
-use Rattle.rows.proofs.Flat.{row_laws, raw_at-front}
-use Rattle.rows.proofs.RowWords.{weight_most, weight_raw_row, weight_none, weight_made, weight_positive, weight_passes}
+use Rattle.rows.specs.Raw.{row_width, max_weight, no_raw, raw_at, weight_in, clause_in}
+use Rattle.rows.proofs.RowWords.{weight_raw_row, weight_none}
 use Rattle.table.specs.Clauses.{clause_from}
 use Rattle.table.specs.Raws.{row_of, raw_of, standard_form}
 use Rattle.table.specs.Meaning.{rows_from}
-use Rattle.table.specs.Valid.{sign_kinds}
-use Rattle.table.specs.Carried.{Carried, AllCarried}
-use Rattle.table.specs.SignWords.{twelve_said, signs_said, words_made, words_pass, clause_wide}
-use Rattle.table.specs.TableLaws.{TableLaws}
+use Rattle.table.specs.Carried.{AllCarried}
 use Rattle.table.proofs.FormRows as forms
 pub use Rattle.table.specs.SixLaws.{row_of_signs, row_of_weight, signs_front, row_of-raw_of, table_laws}
 

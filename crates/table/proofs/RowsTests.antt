@@ -1,5 +1,5 @@
 -- All rows as the code tests them, in any form: one after the other, each sought among those before it.
-use Prim.Native.Nat.{ℕ, zero, suc, ◌+◌, ◌*◌, ◌<◌, ◌≤◌}
+use Prim.Native.Nat.{ℕ, zero, suc, ◌+◌, ◌*◌, ◌<◌}
 use native.Mathlib.Omega.{arith}
 use mathlib.Core.Path.{◌≡◌, refl, sym, ap, ap₂, ◌∙◌}
 use mathlib.Core.Bool.{Bool, true, false, ◌&&◌, cond, false≢true, true≢false}
@@ -20,12 +20,13 @@ use Rattle.table.specs.Meaning.{rows_from_in}
 use Rattle.table.specs.Valid.{sign_kinds, valid_signs, valid_row_in, rows_valid_in}
 use Rattle.table.specs.SignWords.{words_made}
 use Rattle.table.specs.TableLaws.{TableLaws}
+use Rattle.table.specs.SignLaws.{SignLaws}
 use Rattle.table.proofs.FormRows.{length-rows_from, carried_rows_from}
 use Rattle.table.proofs.FormTests.{signs_at, signs_at_lem, absent_each, each_rows, Tested, TestedFor, all_valid}
 use Rattle.table.proofs.FormTests as forms
 use Rattle.table.proofs.Finding.{found_at, found_missing}
 
-module _ (f : TableForm) (law : TableLaws f) where
+module _ (f : TableForm) (law : TableLaws f) (own : SignLaws f) where
   -- ---- the sign words of rows that pass the test are those that are made from their signs
 
   abbrev front : List ℕ → Row
@@ -35,7 +36,7 @@ module _ (f : TableForm) (law : TableLaws f) where
   unfolding same_signs
   words_same ws q e =
       let w = (front ws).weight in
-      ap (λ r. same_signs r q) (words_made ws w e ∙ ap (λ c. raw_row (clause_from c) w) (sym (law.signs ws 0)))
+      ap (λ r. same_signs r q) (words_made ws w e ∙ ap (λ c. raw_row (clause_from c) w) (sym (own.signs ws 0)))
 
   row_kinds : (ds ws : List ℕ) → valid_row_in f ds ws ≡ true → sign_kinds ws ≡ true
   unfolding valid_row_in
@@ -58,7 +59,7 @@ module _ (f : TableForm) (law : TableLaws f) where
 
   module _ (t : List ℕ) (base k : ℕ) (x : Clause) (p : x ≡ clause_in (raw_at t (base + f.rows.width * k))) (ds : List ℕ) (tested : Tested f ds t base k) where
     here : signs_of x ≡ signs_at f t base k
-    here = ap signs_of p ∙ sym (law.signs t (base + f.rows.width * k))
+    here = ap signs_of p ∙ sym (own.signs t (base + f.rows.width * k))
 
     sought : find_spaced f.rows.width (raw_row x 0) 0 k (drop base t) ≡ find_from (raw_row x 0) 0 (map raw_of (rows_from_in f k (drop base t)))
     sought = spaced ds (raw_row x 0) 0 k (drop base t) (each_rows f ds k (drop base t) tested.rows)
@@ -81,12 +82,12 @@ module _ (f : TableForm) (law : TableLaws f) where
 
   module _ (t : List ℕ) (base at k count : ℕ) (fulls : Clause) (r : Bool) (place : at ≡ base + f.rows.width * k)
       (v : (ds : List ℕ) → FullSigns fulls ds → r ≡ valid_row_in f ds (drop at t)) (x : Clause) (found : Option ℕ)
-      (p : x ≡ clause_in (raw_at t at)) (w : ℕ) (wide : w ≡ f.rows.width) (q' : found ≡ find_spaced w (raw_row x 0) 0 k (drop base t)) (tested : TestedFor f fulls t base k) where
+      (p : x ≡ clause_in (raw_at t at)) (w m : ℕ) (q' : found ≡ find_spaced w (raw_row x 0) 0 m (drop base t)) (wide : w ≡ f.rows.width) (before : m ≡ k) (tested : TestedFor f fulls t base k) where
     read : x ≡ clause_in (raw_at t (base + f.rows.width * k))
     read = p ∙ ap (λ i. clause_in (raw_at t i)) place
 
     q : found ≡ find_spaced f.rows.width (raw_row x 0) 0 k (drop base t)
-    q = rw wide at q'
+    q = rw (wide, before) at q'
 
     pair_fails : k < count → (m : ℕ) → found ≡ Some m → (ds : List ℕ) → FullSigns fulls ds → false ≡ all_valid f ds count (drop base t)
     pair_fails h m e ds g =

@@ -19,6 +19,7 @@ use Rattle.table.specs.Valid.{sign_kinds}
 use Rattle.table.specs.Carried.{CarriedIn}
 use Rattle.table.specs.SignWords.{twelve_said, signs_said, words_made, words_pass, clause_wide}
 use Rattle.table.specs.TableLaws.{TableLaws}
+use Rattle.table.specs.SignLaws.{SignLaws}
 use Rattle.table.specs.Five.{five_width, five_max_weight, FiveRaw, five_words, five_at, five_rows, is_five_weight, five_weighs, five_row_of, five_raw_of, five_form}
 
 -- ---- the form of the rows
@@ -48,9 +49,14 @@ five_row_laws = record { length_words = λ r. refl; read_words = λ r ws. refl; 
 abbrev weighed : Raw → ℕ → FiveRaw
 weighed r w = record { a = r.a; b = r.b; c = r.c; d = r.d; weight = weight_word w }
 
-carries : (r : FiveRaw) → CarriedIn five_max_weight (five_row_of r)
+-- the weight of one word
+pub word_weight : (r : FiveRaw) → (five_row_of r).weight ≤ 268435455
 unfolding five_row_of
-carries r = record { twelve = twelve_said (sign_words r.a r.b r.c r.d); light = omega arith }
+word_weight r = omega arith
+
+carries : ((r : FiveRaw) → (five_row_of r).weight ≤ five_max_weight) → (r : FiveRaw) → CarriedIn five_max_weight (five_row_of r)
+unfolding five_row_of
+carries light r = record { twelve = twelve_said (sign_words r.a r.b r.c r.d); light = light r }
 
 says : (r : Row) → CarriedIn five_max_weight r → five_row_of (five_raw_of r) ≡ r
 unfolding five_row_of
@@ -97,13 +103,12 @@ weight_passes r ws h p =
     let n : payload_of w ≡ 0 → ⊥ = λ e. omega arith in
     rw (eq-eqb (kind_of w) 6 k, ne_eqb (payload_of w) 0 n)
 
-pub five_laws : TableLaws five_form
-five_laws =
+-- with the limit that such a word keeps: `RowForm` for `Five` and proofs/FiveLaws give it
+pub laws_by : ((r : FiveRaw) → (five_row_of r).weight ≤ five_max_weight) → TableLaws five_form
+laws_by light =
     record {
       form = five_row_laws;
-      wide = omega arith;
-      signs = signs_read;
-      carries = carries;
+      carries = carries light;
       says = says;
       made = made;
       positive = positive;
@@ -111,3 +116,6 @@ five_laws =
       signs_pass = signs_pass;
       weight_passes = weight_passes;
     }
+
+pub five_signs : SignLaws five_form
+five_signs = record { wide = omega arith; signs = signs_read }

@@ -14,5 +14,6 @@ pub mod WordKinds
 pub mod Carried
 pub mod SignWords
 pub mod TableLaws
+pub mod SignLaws
 pub mod SixLaws
 pub mod FiveLaws

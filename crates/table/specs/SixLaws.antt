@@ -1,23 +1,22 @@
 -- Inner: the form of six-word rows keeps the laws of a form of tables: rows and raw rows give each other, and a row's words pass the tests exactly if they are made from it.
-use Prim.Native.Nat.{ℕ, zero, suc, ◌+◌, ◌*◌, ◌<◌, ◌≤◌}
+use Prim.Native.Nat.{ℕ, ◌<◌}
 use native.Mathlib.Omega.{arith}
 use mathlib.Core.Path.{◌≡◌, refl, ap, ◌∙◌}
 use mathlib.Core.Bool.{true}
-use mathlib.Core.List.{List, [], ◌∷◌, ◌++◌, map}
-use lib.ListN.{length, get_or, drop}
+use mathlib.Core.List.{List, ◌++◌}
+use lib.ListN.{drop}
 use Rattle.wcsp.specs.Row.{Row}
-use Rattle.wcsp.specs.Resolve.{no_row}
 use Rattle.clause.specs.Packed.{signs_of}
-use Rattle.rows.specs.Raw.{row_width, max_weight, Raw, no_raw, raw_words, raw_at, weight_in, row_weighs, sign_words, raw_row, clause_in}
+use Rattle.rows.specs.Raw.{Raw, raw_words, raw_at, weight_in, row_weighs, sign_words, raw_row, clause_in}
 use Rattle.rows.proofs.Flat.{row_laws, raw_at-front}
-use Rattle.rows.proofs.RowWords.{weight_most, weight_raw_row, weight_none, weight_made, weight_positive, weight_passes}
+use Rattle.rows.proofs.RowWords.{weight_most, weight_raw_row, weight_made, weight_positive, weight_passes}
 use Rattle.table.specs.Clauses.{clause_from}
 use Rattle.table.specs.Raws.{row_of, raw_of, standard_form}
-use Rattle.table.specs.Meaning.{rows_from}
 use Rattle.table.specs.Valid.{sign_kinds}
-use Rattle.table.specs.Carried.{Carried, AllCarried}
+use Rattle.table.specs.Carried.{Carried}
 use Rattle.table.specs.SignWords.{twelve_said, signs_said, words_made, words_pass, clause_wide}
 use Rattle.table.specs.TableLaws.{TableLaws}
+use Rattle.table.specs.SignLaws.{SignLaws}
 
 -- ---- what a raw row says
 
@@ -67,8 +66,6 @@ pub table_laws : TableLaws standard_form
 table_laws =
     record {
       form = row_laws;
-      wide = omega arith;
-      signs = λ t at. row_of_signs (raw_at t at);
       carries = carries;
       says = row_of-raw_of;
       made = made;
@@ -77,3 +74,6 @@ table_laws =
       signs_pass = signs_pass;
       weight_passes = weight_pass;
     }
+
+pub six_signs : SignLaws standard_form
+six_signs = record { wide = omega arith; signs = λ t at. row_of_signs (raw_at t at) }

@@ -1,12 +1,10 @@
 -- Inner: what a form of tables owes, so that valid tables of it are canonical and what is written reads back.
-use Prim.Native.Nat.{ℕ, ◌<◌, ◌≤◌}
+use Prim.Native.Nat.{ℕ, ◌<◌}
 use mathlib.Core.Path.{◌≡◌}
 use mathlib.Core.Bool.{true}
 use mathlib.Core.List.{List, ◌++◌}
 use Rattle.wcsp.specs.Row.{Row}
 use Rattle.wcsp.specs.Widening.{wide_row}
-use Rattle.clause.specs.Packed.{signs_of}
-use Rattle.rows.specs.Raw.{raw_at, clause_in}
 use Rattle.rows.proofs.FormRows.{FormLaws}
 use Rattle.table.specs.Form.{TableForm}
 use Rattle.table.specs.Valid.{sign_kinds}
@@ -14,9 +12,6 @@ use Rattle.table.specs.Carried.{CarriedIn}
 
 pub record TableLaws (f : TableForm) : Type 0 where
   pub form : FormLaws f.rows
-  -- as many words as the sign words at least; and the signs of a row are those of its sign words, whatever the words' kinds
-  pub wide : 4 ≤ f.rows.width
-  pub signs : (t : List ℕ) (at : ℕ) → (f.row_of (f.rows.read t at)).signs ≡ signs_of (clause_in (raw_at t at))
   -- what a raw row says can be carried, and the raw row of a row that can be carried says it
   pub carries : (r : f.rows.Raw) → CarriedIn f.limit (f.row_of r)
   pub says : (r : Row) → CarriedIn f.limit r → f.row_of (f.raw_of r) ≡ r

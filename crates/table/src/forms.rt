@@ -13,6 +13,7 @@ pub trait RowForm {
     ghost use Rattle.clause.specs.Packed.{signs_of, FitsBlocks};
     ghost use Rattle.table.specs.Form.{TableForm};
     ghost use Rattle.table.specs.TableLaws.{TableLaws};
+    ghost use Rattle.table.specs.SignLaws.{SignLaws};
 
     // What specs/ says of the form: its width, its greatest weight, its words, and what they say.
     ghost form: { TableForm };
@@ -44,6 +45,8 @@ pub trait RowForm {
 
     ghost laws: { TableLaws form };
 
+    ghost sign_laws: { SignLaws form };
+
     ghost width_ok: { WIDTH ≡ form.rows.width };
 
     ghost limit_ok: { MAX_WEIGHT ≡ form.limit };
@@ -56,7 +59,7 @@ pub struct Six;
 pub struct Five;
 
 /// A clause's sign words at the front of the part that is lent.
-fn write_signs(part: &mut [u32], x: Clause)
+pub fn write_signs(part: &mut [u32], x: Clause)
     requires { (4 ≤ length part.old) × FitsBlocks x }
     ensures { part.new ≡ sign_words_in (raw_row x 0) ++ drop 4 part.old }
 {
@@ -69,7 +72,7 @@ fn write_signs(part: &mut [u32], x: Clause)
 impl RowForm for Six {
     ghost use Rattle.std.specs.Prelude.{refl};
     ghost use Rattle.table.specs.Raws.{standard_form};
-    ghost use Rattle.table.specs.SixLaws.{table_laws};
+    ghost use Rattle.table.specs.SixLaws.{table_laws, six_signs};
 
     ghost form = { standard_form };
 
@@ -97,6 +100,8 @@ impl RowForm for Six {
 
     ghost laws = { table_laws };
 
+    ghost sign_laws = { six_signs };
+
     ghost width_ok = { refl };
 
     ghost limit_ok = { refl };
@@ -105,7 +110,7 @@ impl RowForm for Six {
 impl RowForm for Five {
     ghost use Rattle.std.specs.Prelude.{refl};
     ghost use Rattle.table.specs.Five.{five_form};
-    ghost use Rattle.table.specs.FiveLaws.{five_laws};
+    ghost use Rattle.table.specs.FiveLaws.{word_weight, laws_by, five_signs};
 
     ghost form = { five_form };
 
@@ -131,7 +136,9 @@ impl RowForm for Five {
         part[4] = words::weight(weight as u32);
     }
 
-    ghost laws = { five_laws };
+    ghost laws = { laws_by word_weight };
+
+    ghost sign_laws = { five_signs };
 
     ghost width_ok = { refl };
 

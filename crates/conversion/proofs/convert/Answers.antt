@@ -2,11 +2,10 @@
 use native.Mathlib.Omega.{arith}
 use mathlib.Core.Path.{refl, ◌∙◌}
 use mathlib.Core.Bool.{true, false}
-use lib.ListN.{length-set}
+use lib.ListN.{length, length-set}
 use Rattle.table.proofs.Tested.{table_valid_in}
-use Rattle.table.proofs.Checking.{roomy}
 use Rattle.conversion.proofs.Weights.{heavy_at_most}
-use Rattle.conversion.proofs.Converting.{not_a_table, few, rows_there, too_short, too_wide, no_room, room_there, started_long, none_laid, written_long, converted}
+use Rattle.conversion.proofs.Converting.{not_a_table, target_room, few, rows_there, too_short, too_wide, no_room, room_there, started_long, none_laid, written_long, converted}
 use Rattle.conversion.proofs.convert.Goals as goal
 
 pub returns-in_default : goal.returns-in_default
@@ -47,7 +46,7 @@ returns-then-too_wide g c =
     (heavy_at_most h _ (c.MAX_WEIGHT.ensures ∙ g.met.T.RowForm.limit_ok) _ _ c.too_wide.ensures true c.if-too_wide.true) _ refl
 
 pub rows_in-requires : goal.rows_in-requires
-rows_in-requires g c = (omega arith, omega (arith, c.WIDTH.ensures, g.met.T.RowForm.width_ok, g.met.T.RowForm.laws.wide))
+rows_in-requires g c = (omega arith, omega (arith, g.met.T.RowForm.width_ok, g.met.T.RowForm.sign_laws.wide))
 
 pub returns-then-rows_in-count : goal.returns-then-rows_in-count
 returns-then-rows_in-count g c =
@@ -56,7 +55,7 @@ returns-then-rows_in-count g c =
     let a = c.args in
     let p = table_valid_in f a.source.now _ c.check_in.ensures _ c.in-Some.is in
     let light = heavy_at_most h _ (c.MAX_WEIGHT.ensures ∙ g.met.T.RowForm.limit_ok) _ _ c.too_wide.ensures false c.if-too_wide.false in
-    let room = roomy h _ (c.WIDTH.ensures ∙ g.met.T.RowForm.width_ok) _ _ _ c.rows_in.ensures.0 in
+    let room = target_room h _ _ (length a.target.now) _ _ c.rows_in.ensures.0 (omega (arith, g.met.T.RowForm.width_ok)) (omega arith) in
     no_room f h g.met.S.RowForm.laws g.met.T.RowForm.laws a.source.now a.target.now c.in-Some.shape p (omega arith) light _ room (omega arith) _ refl
 
 pub start-requires : goal.start-requires
@@ -74,7 +73,7 @@ write_rows-requires g c =
     let a = c.args in
     let p = table_valid_in f a.source.now _ c.check_in.ensures _ c.in-Some.is in
     let light = heavy_at_most h _ (c.MAX_WEIGHT.ensures ∙ g.met.T.RowForm.limit_ok) _ _ c.too_wide.ensures false c.if-too_wide.false in
-    let room = roomy h _ (c.WIDTH.ensures ∙ g.met.T.RowForm.width_ok) _ _ _ c.rows_in.ensures.0 in
+    let room = target_room h _ _ (length a.target.now) _ _ c.rows_in.ensures.0 (omega (arith, g.met.T.RowForm.width_ok)) (omega arith) in
     let long = started_long f h g.met.S.RowForm.laws g.met.T.RowForm.laws a.source.now a.target.now c.in-Some.shape p (omega arith) light _ room (omega arith) _ c.start.ensures in (
       rows_there f h g.met.S.RowForm.laws g.met.T.RowForm.laws a.source.now a.target.now c.in-Some.shape p,
       omega (arith, room_there f h g.met.S.RowForm.laws g.met.T.RowForm.laws a.source.now a.target.now c.in-Some.shape p (omega arith) light _ room (omega arith)),
@@ -89,7 +88,7 @@ shape_of-target g c =
     let a = c.args in
     let p = table_valid_in f a.source.now _ c.check_in.ensures _ c.in-Some.is in
     let light = heavy_at_most h _ (c.MAX_WEIGHT.ensures ∙ g.met.T.RowForm.limit_ok) _ _ c.too_wide.ensures false c.if-too_wide.false in
-    let room = roomy h _ (c.WIDTH.ensures ∙ g.met.T.RowForm.width_ok) _ _ _ c.rows_in.ensures.0 in
+    let room = target_room h _ _ (length a.target.now) _ _ c.rows_in.ensures.0 (omega (arith, g.met.T.RowForm.width_ok)) (omega arith) in
     simp length-set (written_long f h g.met.S.RowForm.laws g.met.T.RowForm.laws a.source.now a.target.now c.in-Some.shape p (omega arith) light _ room (omega arith) _ c.start.ensures _ c.write_rows.ensures)
 
 pub returns : goal.returns
@@ -99,5 +98,5 @@ returns g c =
     let a = c.args in
     let p = table_valid_in f a.source.now _ c.check_in.ensures _ c.in-Some.is in
     let light = heavy_at_most h _ (c.MAX_WEIGHT.ensures ∙ g.met.T.RowForm.limit_ok) _ _ c.too_wide.ensures false c.if-too_wide.false in
-    let room = roomy h _ (c.WIDTH.ensures ∙ g.met.T.RowForm.width_ok) _ _ _ c.rows_in.ensures.0 in
+    let room = target_room h _ _ (length a.target.now) _ _ c.rows_in.ensures.0 (omega (arith, g.met.T.RowForm.width_ok)) (omega arith) in
     converted f h g.met.S.RowForm.laws g.met.T.RowForm.laws a.source.now a.target.now c.in-Some.shape p (omega arith) light _ room (omega arith) _ c.start.ensures _ c.write_rows.ensures _ c.count.ensures _ refl

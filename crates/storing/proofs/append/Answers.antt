@@ -1,5 +1,5 @@
 -- `append` meets its contract: the row that the clause's signs say is the clause's own.
-use mathlib.Core.Path.{ap, subst}
+use mathlib.Core.Path.{subst}
 use mathlib.Core.List.{[], ◌∷◌, ◌++◌}
 use Rattle.rows.specs.Raw.{raws_in, Left, raw_row}
 use Rattle.table.specs.TwelveSigns.{clause_from_signs}

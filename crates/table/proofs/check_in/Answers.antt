@@ -1,10 +1,10 @@
 -- `check_in` meets its contract: past the front, each test that fails is one of the definition's, and past them all the slice is a table of the shape answered.
-use Prim.Native.Nat.{◌<◌, ◌+◌, ◌*◌, ◌≤◌}
+use Prim.Native.Nat.{ℕ, ◌+◌, ◌*◌, ◌≤◌}
 use native.Mathlib.Omega.{arith}
-use mathlib.Core.Path.{◌≡◌, sym, ap, ◌∙◌}
+use mathlib.Core.Path.{◌≡◌, ◌∙◌}
 use lib.ListN.{length}
 use Rattle.table.proofs.FormTables.{room_rows}
-use Rattle.table.proofs.Checking.{Front, front_told, front_bad, no_capacity, roomy, rows_end, zeros_from, bad_rows, bad_zeros, all_good}
+use Rattle.table.proofs.Checking.{front_told, front_bad, no_capacity, roomy, rows_end, zeros_from, bad_rows, bad_zeros, all_good}
 use Rattle.table.proofs.check_in.Goals as goal
 
 pub returns-in_err-shape : goal.returns-in_err-shape
@@ -13,13 +13,13 @@ returns-in_err-shape g c =
 
 pub rows_in-requires : goal.rows_in-requires
 rows_in-requires g c =
-    ((front_told c.args.t.now _ c.front.ensures _ c.in_ok-shape.was).room, omega (arith, c.WIDTH.ensures, g.met.F.RowForm.width_ok, g.met.F.RowForm.laws.wide))
+    ((front_told c.args.t.now _ c.front.ensures _ c.in_ok-shape.was).room, omega (arith, g.met.F.RowForm.width_ok, g.met.F.RowForm.sign_laws.wide))
 
 pub returns-then-rows_in-count : goal.returns-then-rows_in-count
 returns-then-rows_in-count g c =
     let f = g.F.RowForm.form in
     no_capacity f c.args.t.now _ (front_told c.args.t.now _ c.front.ensures _ c.in_ok-shape.was) _
-    (roomy f _ (c.WIDTH.ensures ∙ g.met.F.RowForm.width_ok) _ _ _ c.rows_in.ensures.0) (omega arith)
+    (roomy f _ _ _ _ c.rows_in.ensures.0 (omega (arith, g.met.F.RowForm.width_ok))) (omega arith)
 
 pub overflow_add-n : goal.overflow_add-n
 overflow_add-n g c = let few = (front_told c.args.t.now _ c.front.ensures _ c.in_ok-shape.was).few in omega arith
@@ -28,7 +28,7 @@ pub rows_valid-requires : goal.rows_valid-requires
 rows_valid-requires g c =
     let f = g.F.RowForm.form in
     let p = front_told c.args.t.now _ c.front.ensures _ c.in_ok-shape.was in
-    let r = roomy f _ (c.WIDTH.ensures ∙ g.met.F.RowForm.width_ok) _ _ _ c.rows_in.ensures.0 in
+    let r = roomy f _ _ _ _ c.rows_in.ensures.0 (omega (arith, g.met.F.RowForm.width_ok)) in
     (room_rows f _ _ _ p.room (omega (arith, r)), p.packed)
 
 pub returns-then-not-rows_valid : goal.returns-then-not-rows_valid
@@ -40,26 +40,29 @@ overflow_add-n-2 g c = let few = (front_told c.args.t.now _ c.front.ensures _ c.
 
 pub all_zero_from-requires : goal.all_zero_from-requires
 all_zero_from-requires g c =
-    rows_end g.F.RowForm.form _ (c.WIDTH.ensures ∙ g.met.F.RowForm.width_ok) _ _ _ _ _ (c.WIDTH-2.ensures ∙ g.met.F.RowForm.width_ok)
-    (front_told c.args.t.now _ c.front.ensures _ c.in_ok-shape.was).room c.rows_in.ensures.0 (omega arith)
+    let f = g.F.RowForm.form in
+    let p = front_told c.args.t.now _ c.front.ensures _ c.in_ok-shape.was in
+    let r = roomy f _ _ _ _ c.rows_in.ensures.0 (omega (arith, g.met.F.RowForm.width_ok)) in
+    rows_end f _ _ _ _ p.room (omega (arith, r)) (omega (arith, g.met.F.RowForm.width_ok))
 
 pub overflow_add-n-3 : goal.overflow_add-n-3
 overflow_add-n-3 g c =
+    let f = g.F.RowForm.form in
+    let p = front_told c.args.t.now _ c.front.ensures _ c.in_ok-shape.was in
+    let r = roomy f _ _ _ _ c.rows_in.ensures.0 (omega (arith, g.met.F.RowForm.width_ok)) in
     let s = c.in_ok-shape.shape in
-    let ends : s.variables + 2 + c.WIDTH-2.result * s.count ≤ length c.args.t.now =
-    rows_end g.F.RowForm.form _ (c.WIDTH.ensures ∙ g.met.F.RowForm.width_ok) _ _ _ _ _ (c.WIDTH-2.ensures ∙ g.met.F.RowForm.width_ok)
-    (front_told c.args.t.now _ c.front.ensures _ c.in_ok-shape.was).room c.rows_in.ensures.0 (omega arith) in
-    omega (arith, ends)
+    let ends : (v : ℕ) → v ≡ f.rows.width → s.variables + 2 + v * s.count ≤ length c.args.t.now = λ v e. rows_end f v _ _ _ p.room (omega (arith, r)) e in
+    grind (arith, g.met.F.RowForm.width_ok, ends)
 
 pub returns-then-not-all_zero_from : goal.returns-then-not-all_zero_from
 returns-then-not-all_zero_from g c =
     let f = g.F.RowForm.form in
     bad_zeros f c.args.t.now _ (front_told c.args.t.now _ c.front.ensures _ c.in_ok-shape.was) _
-    (zeros_from f _ (c.WIDTH-2.ensures ∙ g.met.F.RowForm.width_ok) c.args.t.now _ _ _ c.all_zero_from.ensures) c.if-not-all_zero_from.true
+    (zeros_from f c.args.t.now _ _ _ _ c.all_zero_from.ensures (omega (arith, g.met.F.RowForm.width_ok))) c.if-not-all_zero_from.true
 
 pub returns : goal.returns
 returns g c =
     let f = g.F.RowForm.form in
     all_good f c.args.t.now _ (front_told c.args.t.now _ c.front.ensures _ c.in_ok-shape.was) _ _ c.rows_valid.ensures c.if-not-rows_valid.false
-    (zeros_from f _ (c.WIDTH-2.ensures ∙ g.met.F.RowForm.width_ok) c.args.t.now _ _ _ c.all_zero_from.ensures) c.if-not-all_zero_from.false _
-    (roomy f _ (c.WIDTH.ensures ∙ g.met.F.RowForm.width_ok) _ _ _ c.rows_in.ensures.0) (omega arith)
+    (zeros_from f c.args.t.now _ _ _ _ c.all_zero_from.ensures (omega (arith, g.met.F.RowForm.width_ok))) c.if-not-all_zero_from.false _
+    (roomy f _ _ _ _ c.rows_in.ensures.0 (omega (arith, g.met.F.RowForm.width_ok))) (omega arith)

@@ -19,19 +19,19 @@ returns-then-not-row_valid g c =
 pub returns-then-is_some : goal.returns-then-is_some
 returns-then-is_some g c =
     let a = c.args in
-    seen_fails g.F.RowForm.form g.met.F.RowForm.laws a.t.now a.base _ c.loop-k.k a.count a.fulls _
+    seen_fails g.F.RowForm.form g.met.F.RowForm.laws g.met.F.RowForm.sign_laws a.t.now a.base _ c.loop-k.k a.count a.fulls _
     (ap (λ w. a.base + w * c.loop-k.k) (c.WIDTH.ensures ∙ g.met.F.RowForm.width_ok)) c.row_valid.ensures
     _ _ c.clause_at.ensures.0
-    _ (c.WIDTH-in-loop-k.ensures ∙ g.met.F.RowForm.width_ok) c.find_spaced-earlier.ensures
+    _ _ c.find_spaced-earlier.ensures (omega (arith, g.met.F.RowForm.width_ok)) (omega arith)
     c.loop-k.invariant (omega arith) (sym c.is_some.ensures ∙ c.if-is_some.true)
 
 pub loop-k-preserved : goal.loop-k-preserved
 loop-k-preserved g c =
     let a = c.args in
-    unseen_more g.F.RowForm.form g.met.F.RowForm.laws a.t.now a.base _ c.loop-k.k a.count a.fulls _
+    unseen_more g.F.RowForm.form g.met.F.RowForm.laws g.met.F.RowForm.sign_laws a.t.now a.base _ c.loop-k.k a.count a.fulls _
     (ap (λ w. a.base + w * c.loop-k.k) (c.WIDTH.ensures ∙ g.met.F.RowForm.width_ok)) c.row_valid.ensures
     _ _ c.clause_at.ensures.0
-    _ (c.WIDTH-in-loop-k.ensures ∙ g.met.F.RowForm.width_ok) c.find_spaced-earlier.ensures
+    _ _ c.find_spaced-earlier.ensures (omega (arith, g.met.F.RowForm.width_ok)) (omega arith)
     c.loop-k.invariant c.if-not-row_valid.false (sym c.is_some.ensures ∙ c.if-is_some.false)
 
 pub returns : goal.returns

@@ -1,23 +1,24 @@
 -- `too_wide` meets its contract: the loop keeps that no row before k weighs more.
+use Prim.Native.Nat.{◌*◌}
 use native.Mathlib.Omega.{arith}
-use mathlib.Core.Path.{◌∙◌}
+use mathlib.Core.Path.{ap, ◌∙◌}
 use borrow.Author.Count.{below_more}
-use Rattle.conversion.proofs.Weights.{weight_wide, one_heavy, none-heavy}
+use Rattle.std.proofs.lemmas.Bool.Decides.{nat_tests}
+use Rattle.conversion.proofs.Weights.{heavy_there, light_there, none-heavy}
 use Rattle.conversion.proofs.rewriting.too_wide.Goals as goal
 
-pub returns-then-most-weight_at : goal.returns-then-most-weight_at
-returns-then-most-weight_at g c =
-    let f = g.S.RowForm.form in
+pub returns-then-above : goal.returns-then-above
+returns-then-above g c =
     let a = c.args in
-    one_heavy f g.met.S.RowForm.laws a.most a.t.now a.base a.count c.loop-k.k (omega arith)
-    (omega (arith, weight_wide f _ (c.WIDTH.ensures ∙ g.met.S.RowForm.width_ok) a.t.now a.base c.loop-k.k _ c.weight_at.ensures))
+    heavy_there g.S.RowForm.form g.met.S.RowForm.laws a.most a.t.now a.base a.count c.loop-k.k _ _ c.weight_at.ensures
+    (omega (arith, ap (λ w. w * c.loop-k.k) (c.WIDTH.ensures ∙ g.met.S.RowForm.width_ok))) (omega arith) (grind (arith, nat_tests))
 
 pub loop-k-preserved : goal.loop-k-preserved
 loop-k-preserved g c =
-    let f = g.S.RowForm.form in
     let a = c.args in
-    let here = weight_wide f _ (c.WIDTH.ensures ∙ g.met.S.RowForm.width_ok) a.t.now a.base c.loop-k.k _ c.weight_at.ensures in
-    below_more _ c.loop-k.k c.loop-k.invariant (omega (arith, here))
+    below_more _ c.loop-k.k c.loop-k.invariant
+    (light_there g.S.RowForm.form a.most a.t.now a.base c.loop-k.k _ _ c.weight_at.ensures
+    (omega (arith, ap (λ w. w * c.loop-k.k) (c.WIDTH.ensures ∙ g.met.S.RowForm.width_ok))) (grind (arith, nat_tests)))
 
 pub returns : goal.returns
 returns g c =

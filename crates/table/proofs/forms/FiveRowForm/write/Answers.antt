@@ -1,5 +1,4 @@
 -- The words written are those of the row of this clause and weight.
-use native.Mathlib.Omega.{arith}
 use Rattle.table.proofs.FormWords.{five_written}
 use Rattle.table.proofs.forms.FiveRowForm.write.Goals as goal
 
