@@ -8,7 +8,7 @@ use mathlib.Core.List.{List, [], ◌∷◌, ◌++◌}
 use lib.ListN.{drop, replicate}
 use lib.Bits.{bit_and, and_step, and_mask, and_zero_r, and_mod, and_shr}
 use lib.Dec.{eqb}
-use borrow.Author.Tests.{eqb-true, eqb-false, eq-eqb, ne_eqb}
+use borrow.Author.Tests.{eqb-true, eqb-false, ne_eqb}
 use Rattle.wcsp.specs.Sign.{has}
 use Rattle.wcsp.specs.Clause.{falsifies}
 use Rattle.wcsp.proofs.Signs.{has_head, has-step}

@@ -49,3 +49,10 @@ module _ (t : List ℕ) (v : valid_table t ≡ true) (shape : Shape) (s : shape 
 
     pub found_left : is_some found ≡ is_left (table_pair t)
     found_left = ap is_some (sym hunted) ∙ some_left (table_pair t)
+
+-- the same, by the shape that the table has
+pub left_at : (t : List ℕ) (found : Option Next) → valid_table t ≡ true
+    → climbing.Over t ((shape_of t).variables + 2) (shape_of t).count 0 0 0 (shape_of t).fulls
+    (λ ds. found ≡ hunted_of 0 (pair_from ds (length ds - 0) 0 (rows_from (shape_of t).count (drop ((shape_of t).variables + 2) t))))
+    → is_left (table_pair t) ≡ is_some found
+left_at t found v sought = sym (found_left t v (shape_of t) refl found sought)

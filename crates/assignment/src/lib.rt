@@ -59,6 +59,7 @@ pub fn rebuild(t: &[u32], shape: Shape, k: usize, given: Clause, target: &mut [u
 }
 
 /// Whether a pair is left in a valid table of this shape.
+#[tactic(auto, using(crate::proofs::Hunting::left_at))]
 pub fn pair_left(t: &[u32], shape: Shape) -> bool
     requires { (valid_table t.now ≡ true) × (shape ≡ shape_of t.now) }
     ensures { result ≡ is_left (table_pair t.now) }

@@ -1,6 +1,6 @@
 -- What the check comes to, stage by stage: refused by its encoding, stopped at a step word, or judged. The encoding leaves a valid table,
 -- and the replay another.
-use Prim.Native.Nat.{ℕ, ◌+◌, ◌<◌, ◌≤◌}
+use Prim.Native.Nat.{ℕ}
 use native.Mathlib.Omega.{arith}
 use mathlib.Core.Path.{◌≡◌, refl, sym, ap, ap₂, ◌∙◌}
 use mathlib.Core.Bool.{true, cond}
@@ -8,29 +8,24 @@ use mathlib.Core.List.{List}
 use lib.ListN.{length}
 use borrow.Author.Tests.{eq-eqb, ne_eqb}
 use Rattle.fields.specs.Answers.{Answer}
-use Rattle.fields.specs.declared.refusals.Fault.{Fault}
 use Rattle.fields.specs.declared.refusals.Fault.TheVariants.{BadHead, BadVariable, BadEntry, CostTooHigh, TooManyEntries}
 use Rattle.fields.specs.declared.refusals.Refusal.{Refusal}
 use Rattle.fields.specs.declared.refusals.Refusal.TheVariants.{Input, BadStep, BadClaim, BadReadout, BadTable, TargetTooShort, WeightTooHigh, TableFull, PairLeft, BadFixed, Forbidden, WeightTooWide}
 use Rattle.fields.specs.Numbers.{number_of}
 use Rattle.wcsp.specs.Row.{empty_weight}
 use Rattle.wcsp.specs.Widening.{wide_rows}
-use Rattle.wcsp.proofs.WideningRows.{length-wide}
 use Rattle.fields.specs.Limits.{max_variables}
 use Rattle.fields.specs.Padding.{padded, lacking}
 use Rattle.input.specs.Instance.{instance_fault, sizes_of}
-use Rattle.table.specs.declared.Shape.{Shape}
 use Rattle.table.specs.Layout.{capacity, table_words}
-use Rattle.table.specs.Meaning.{variables_of, row_count, table_rows, domains, capacity_of}
+use Rattle.table.specs.Meaning.{table_rows, domains, capacity_of}
 use Rattle.table.specs.Valid.{valid_table}
-use Rattle.table.specs.Check.{shape_of}
 use Rattle.table.proofs.Own.{Held, words_wide, no_sign_behind, own_empty}
 use Rattle.encoding.specs.Calls.{EncodeReturned, encoded_rows, encode_call}
-use Rattle.std.specs.Prelude.{Result, Err}
-use Rattle.checker.specs.Answer.{CheckAnswer, checked_as}
+use Rattle.checker.specs.Answer.{CheckAnswer}
 use Rattle.checker.specs.Replay.{Replayed, replay}
-use Rattle.checker.specs.declared.Stopped.{Stopped}
 use Rattle.checker.specs.Calls.{claim_holds, judged, check_call}
+use Rattle.checker.specs.Twelve.{replay_call}
 use Rattle.checker.proofs.Encoded.{GoodEncoding, coded, coded_table, encode_refused}
 use Rattle.checker.proofs.Replaying.{left_held}
 use Rattle.checker.proofs.Claims.{replayed, coded_takes, encoded_left, replayed_ended, check_judged}
@@ -119,15 +114,12 @@ module _ (inst derivation plan : List ℕ) (claimed : ℕ) (t : List ℕ) where
         second : Held t₂ (length t) (sizes_of inst) whole.rows
         second = left_held (coded_takes inst t found) (replayed_ended inst t found derivation).left table_is
 
-        pub check_stopped : {answer : Result ℕ Stopped} {s : Stopped} → done ≡ checked_as answer → answer ≡ Err s → Checks (record { number = number_of s.refusal; steps = s.steps }) t₂
+        stops_at : (done.number ≡ 0 → ⊥) → Checks (record { number = done.number; steps = done.steps }) t₂
         unfolding judged
-        check_stopped {answer} {s} c₁ c₂ =
-            let d : done ≡ record { number = number_of s.refusal; steps = s.steps } = c₁ ∙ ap checked_as c₂ in
-            let a : number_of s.refusal ≡ whole.number = ap (λ x. x.number) (sym d ∙ done_is) in
-            let w : s.steps ≡ whole.steps = ap (λ x. x.steps) (sym d ∙ done_is) in
-            let b = ne_eqb whole.number 0 (λ z. refused_some s.refusal (a ∙ z)) in
+        stops_at m =
+            let b = ne_eqb whole.number 0 (λ z. m (ap (λ d. d.number) done_is ∙ z)) in
             let j = check_judged inst derivation plan claimed t good_number in
-            rw (j, b) (λ k. record { answer = record { number = a k; steps = w k }; table = table_is k })
+            rw (j, b) (λ k. record { answer = record { number = (done_is k).number; steps = (done_is k).steps }; table = table_is k })
 
         pub judge_asks : (instance_fault inst ≡ 0) × (valid_table t₂ ≡ true)
         judge_asks = (found.accepted, second.valid)
@@ -145,3 +137,34 @@ module _ (inst derivation plan : List ℕ) (claimed : ℕ) (t : List ℕ) where
             let a : number ≡ cond (claim_holds inst plan claimed (empty_weight (length (sizes_of inst)) whole.rows)) 0 7 = p ∙ ap (λ n. cond (claim_holds inst plan claimed n) 0 7) empty_is in
             let w : steps ≡ whole.steps = ap (λ x. x.steps) (sym d ∙ done_is) in
             rw (j, b) (λ k. record { answer = record { number = a k; steps = w k }; table = table_is k })
+
+  -- a check stopped at a step word, by what the encoding and the replay return
+  pub stopped_at : (encode_call inst t).answer.number ≡ 0 → ((replay_call (encode_call inst t).table derivation).answer.number ≡ 0 → ⊥)
+      → check_call inst derivation plan claimed t
+      ≡ record {
+        answer =
+            record {
+              number = (replay_call (encode_call inst t).table derivation).answer.number;
+              steps = (replay_call (encode_call inst t).table derivation).answer.steps;
+            };
+        table = (replay_call (encode_call inst t).table derivation).table;
+      }
+  stopped_at n m = sym (stops_at {coding = (encode_call inst t).answer} {t₁ = (encode_call inst t).table} refl n {done = (replay_call (encode_call inst t).table derivation).answer} {t₂ = (replay_call (encode_call inst t).table derivation).table} refl m)
+
+  -- a check whose words were all good, by what the encoding and the replay return: the claim decides
+  pub judged_at : (encode_call inst t).answer.number ≡ 0 → (replay_call (encode_call inst t).table derivation).answer.number ≡ 0
+      → check_call inst derivation plan claimed t
+      ≡ record {
+        answer =
+            record {
+              number =
+                  cond (claim_holds inst plan claimed (empty_weight max_variables (table_rows (replay_call (encode_call inst t).table derivation).table))) 0 7;
+              steps = (replay_call (encode_call inst t).table derivation).answer.steps;
+            };
+        table = (replay_call (encode_call inst t).table derivation).table;
+      }
+  judged_at n m =
+      sym (check_judges {coding = (encode_call inst t).answer} {t₁ = (encode_call inst t).table} refl n {done = (replay_call (encode_call inst t).table derivation).answer} {t₂ = (replay_call (encode_call inst t).table derivation).table} refl
+      (replay_call (encode_call inst t).table derivation).answer.steps
+      (λ k. record { number = m k; steps = (replay_call (encode_call inst t).table derivation).answer.steps })
+      {number = cond (claim_holds inst plan claimed (empty_weight max_variables (table_rows (replay_call (encode_call inst t).table derivation).table))) 0 7} refl)

@@ -1,5 +1,5 @@
 -- A good encoding: what its tests found, and the table that it wrote. A refused one leaves the slice as it was.
-use Prim.Native.Nat.{ℕ, ◌+◌, ◌<◌, ◌≤◌}
+use Prim.Native.Nat.{ℕ, ◌+◌, ◌≤◌}
 use native.Mathlib.Omega.{arith}
 use mathlib.Core.Path.{◌≡◌, refl, sym, ap, ◌∙◌}
 use mathlib.Core.Bool.{Bool, true, false, cond}
@@ -9,7 +9,6 @@ use lib.Dec.{eqb, ltb}
 use borrow.Author.Tests.{eqb-true, eqb-false, ltb-false, eq-eqb, le-ltb}
 use Rattle.fields.specs.Answers.{refused, good}
 use Rattle.input.specs.Instance.{instance_fault, sizes_of}
-use Rattle.input.proofs.Faults.{instance_small}
 use Rattle.table.specs.Layout.{capacity, table_words}
 use Rattle.encoding.specs.Calls.{EncodeReturned, encoded_rows, encode_call}
 

@@ -11,7 +11,6 @@ use lib.ListN.{length, get_or, drop, drop_of_length-le}
 use lib.Seq.{drop-cons}
 use Rattle.wcsp.specs.Row.{Row}
 use Rattle.wcsp.specs.Resolve.{Pair, resolve, MayResolve}
-use Rattle.clause.specs.declared.Clause.{Clause}
 use Rattle.table.specs.declared.Shape.{Shape}
 use Rattle.table.specs.Layout.{table_words}
 use Rattle.table.specs.Meaning.{variables_of, row_count, table_sizes, table_rows, domains, capacity_of}

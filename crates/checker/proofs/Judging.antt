@@ -1,5 +1,5 @@
 -- The claim as the code tests it: bytes that are no assignment, another cost, another empty row's weight, or a claim that holds.
-use Prim.Native.Nat.{ℕ}
+use Prim.Native.Nat.{ℕ, ◌≤◌}
 use native.Mathlib.Omega.{arith}
 use mathlib.Core.Path.{◌≡◌, refl, sym, ap, ◌∙◌}
 use mathlib.Core.Bool.{Bool, true, false, cond, and-false}
@@ -9,10 +9,16 @@ use borrow.Author.Tests.{eq-eqb, ne_eqb, eqb-true, eqb-false}
 use Rattle.wcsp.specs.Entry.{cost}
 use Rattle.fields.specs.Answers.{Answer}
 use Rattle.fields.specs.Answers.{refused, good}
+use Rattle.fields.specs.declared.refusals.Refusal.{Refusal}
+use Rattle.fields.specs.Numbers.{number_of}
 use Rattle.fields.specs.Assignment.{is_assignment}
 use Rattle.cost.specs.Calls.{cost_call}
 use Rattle.input.specs.Instance.{instance_fault, sizes_of, entries_of}
 use Rattle.checker.specs.Calls.{claim_holds}
+
+-- a refusal has a number
+pub refused_more : (r : Refusal) → 1 ≤ number_of r
+refused_more r = grind arith
 
 module _ (inst plan : List ℕ) (accepted : instance_fault inst ≡ 0) (priced : Answer) (e : priced ≡ cost_call inst plan) where
   price : priced ≡ cond (is_assignment (sizes_of inst) plan) (good (cost (entries_of inst) plan)) (refused 7)

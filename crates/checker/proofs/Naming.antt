@@ -160,7 +160,7 @@ module _ (t : List ℕ) (valid : valid_table t ≡ true) {shape : Shape} (e : sh
               answer (domains t) (full_signs t valid e) (premise_valid (ready t valid e) i h x f) (premise_valid (ready t valid e) j inside y g)
               ∙ ap₂ (permitted (domains t) v) (premise_signs (ready t valid e) i h x f) (premise_signs (ready t valid e) j inside y g)
 
-          pub names_forbidden : b ≡ false → Names t w None
+          names_forbidden : b ≡ false → Names t w None
           names_forbidden h =
               names_none t w (forbidden (domains t) (table_rows t) w v i j is_step known_here ordered in_table (sym tested ∙ h))
 
@@ -169,3 +169,21 @@ module _ (t : List ℕ) (valid : valid_table t ≡ true) {shape : Shape} (e : sh
               names_some t w v i j
               (named (domains t) (table_rows t) w v i j is_step
               (record { ordered = ordered; in_table = in_table; known = known_here; may = sym tested ∙ h }))
+
+-- ---- the test of the signs, by what the word and the rows are
+
+module _ (t : List ℕ) (w v i j : ℕ) where
+  -- the clause of a row
+  abbrev clause_there : ℕ → Clause
+  clause_there k = clause_in (raw_at t ((shape_of t).variables + 2 + row_width * k))
+
+  -- in any order of the rows
+  pub forbidden_at : valid_table t ≡ true → word_of w ≡ Step v i j → v < 12 → j < (shape_of t).count
+      → ((ds : List ℕ) → FullSigns (shape_of t).fulls ds → ValidClause ds (signs_of (clause_there i)) → ValidClause ds (signs_of (clause_there j))
+      → false ≡ permitted ds v (signs_of (clause_there i)) (signs_of (clause_there j)))
+      → named_of (named_pair (domains t) (table_rows t) w) ≡ None
+  forbidden_at valid e a c h = sym (go (ltb i j) refl)
+    where
+      go : (b : Bool) → ltb i j ≡ b → Names t w None
+      go true o = names_forbidden t valid {shape = shape_of t} refl w {got = word_of w} refl e a (ltb-true i j o) c refl refl h refl
+      go false o = names_unordered t valid {shape = shape_of t} refl w {got = word_of w} refl e a (ltb-false i j o)

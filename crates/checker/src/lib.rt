@@ -36,6 +36,7 @@ struct Pair {
 }
 
 /// The permitted pair that a word names on a valid table: variable known, first row below the second, both in the table.
+#[tactic(auto, using(crate::proofs::Naming::forbidden_at))]
 fn named_pair(t: &[u32], shape: Shape, w: u32) -> Option<Pair>
     requires { (valid_table t.now ≡ true) × (shape ≡ shape_of t.now) }
     ensures { result ≡ named_of (named_pair (domains t.now) (table_rows t.now) w) }
@@ -91,6 +92,7 @@ fn replay(t: &mut [u32], derivation: &[u32]) -> Result<usize, Stopped>
 }
 
 /// Judges the claim on a valid table: refused unless the claimed cost is the plan's and the empty row's weight.
+#[tactic(auto, using(crate::proofs::Judging::claim_unplanned, crate::proofs::Judging::claim_other_cost, crate::proofs::Judging::claim_other_weight, crate::proofs::Judging::refused_more))]
 fn judge(instance: &[u32], plan: &[u8], claimed: u64, t: &[u32]) -> Result<(), Refusal>
     requires { (instance_fault instance.now ≡ 0) × (valid_table t.now ≡ true) }
     ensures { refusal_in result ≡ cond (claim_holds instance.now plan.now claimed (empty_weight max_variables (table_rows t.now))) 0 7 }
@@ -115,6 +117,7 @@ fn judge(instance: &[u32], plan: &[u8], claimed: u64, t: &[u32]) -> Result<(), R
 ///
 /// A fault of the instance, `TargetTooShort` or `TableFull` where it is not encoded: the table is then kept. `BadStep`, `WeightTooHigh` or
 /// `TableFull` at the first step word that is refused, then `BadClaim`: the table is then as the last good step left it.
+#[tactic(auto, using(crate::proofs::Checking::stopped_at, crate::proofs::Checking::judged_at, crate::proofs::Judging::refused_more))]
 pub fn check(
     instance: &[u32],
     derivation: &[u32],

@@ -3,6 +3,9 @@ use Prim.Native.Nat.{ℕ, suc, max, ◌+◌, ◌-◌, ◌*◌, ◌<◌, ◌≤�
 use native.Mathlib.Numerals.{add-one}
 use native.Mathlib.Omega.{arith}
 use mathlib.Core.Path.{◌≡◌, refl, sym, ap, ◌∙◌}
+use mathlib.Core.Bool.{Bool, true, false}
+use lib.Dec.{eqb, ltb}
+use borrow.Author.Tests.{eqb-true, eqb-false, ltb-true, ltb-false}
 use mathlib.Core.List.{List}
 use mathlib.Core.Option as math
 use lib.ListN.{length, get_or, drop}
@@ -16,7 +19,7 @@ use Rattle.clause.specs.declared.Clause.{Clause}
 use Rattle.clause.specs.Packed.{signs_of, FullSigns}
 use Rattle.clause.proofs.Signs12.{signs_of-length}
 use Rattle.rows.specs.Raw.{row_width, raw_at, clause_in}
-use Rattle.std.specs.Prelude.{Option, Some, None, false}
+use Rattle.std.specs.Prelude.{Option, Some, None}
 use Rattle.table.proofs.RawRows.{length-rows_from}
 use Rattle.hunt.specs.Hunt.{found_of, hunted_of, Cleared}
 use Rattle.hunt.proofs.TableRows.{rows_in, in_rows, signs_read, valid_read}
@@ -103,6 +106,29 @@ module _ (t : List ℕ) (base count v skip from : ℕ) (fulls : Clause) where
 
         pub alone : found ≡ None → Over (λ ds. Tried ds (i + 1) 0)
         alone k = past (λ ds f r c. missing_none (second ds) (answered ds f r c ∙ k))
+
+    -- what a turn leaves where no second row is found: what is sought from behind row i, or from `least` if that is later, is missing
+    pub turned : v < 12 → (sign : ℕ) → sign ≡ get_or (signs_of at_i) v 0
+        → (0 < sign → least ≤ i + 1 → seeking.Over t base count at_i v fulls (λ ds. found_of (partner ds v (signs_of at_i) (i + 1) (drop (i + 1) (rows_in t base count))) ≡ None))
+        → (0 < sign → i + 1 < least → seeking.Over t base count at_i v fulls (λ ds. found_of (partner ds v (signs_of at_i) least (drop least (rows_in t base count))) ≡ None))
+        → Over (λ ds. Tried ds (i + 1) 0)
+    turned l sign e behind later = by_sign (eqb sign 0) refl
+      where
+        by_start : 0 < sign → bucket (signs_of at_i) ≡ v → (b : Bool) → ltb (i + 1) least ≡ b → Over (λ ds. Tried ds (i + 1) 0)
+        by_start p m true q ds f r c =
+            let s : i + 1 < least = ltb-true (i + 1) least q in
+            alone at_i refl (bucket (signs_of at_i)) refl m least (omega arith) None (λ es g h k n. sym (later p s es g h k n)) refl ds f r c
+        by_start p m false q ds f r c =
+            let s : least ≤ i + 1 = ltb-false (i + 1) least q in
+            alone at_i refl (bucket (signs_of at_i)) refl m (i + 1) (omega arith) None (λ es g h k n. sym (behind p s es g h k n)) refl ds f r c
+
+        by_bucket : 0 < sign → (b : Bool) → eqb (bucket (signs_of at_i)) v ≡ b → Over (λ ds. Tried ds (i + 1) 0)
+        by_bucket p true q = by_start p (eqb-true (bucket (signs_of at_i)) v q) (ltb (i + 1) least) refl
+        by_bucket p false q = other (eqb-false (bucket (signs_of at_i)) v q)
+
+        by_sign : (b : Bool) → eqb sign 0 ≡ b → Over (λ ds. Tried ds (i + 1) 0)
+        by_sign true q = absent l sign e (eqb-true sign 0 q)
+        by_sign false q = by_bucket (omega (arith, eqb-false sign 0 q)) (eqb (bucket (signs_of at_i)) v) refl
 
   pub nothing : (i least : ℕ) → Over (λ ds. Tried ds i least) → count ≤ i → Over (λ ds. None ≡ hunted_of v (pair_in ds v 0 (rows_in t base count)))
   unfolding hunted_of

@@ -42,6 +42,7 @@ fn write_instance(sheet: &[u32], sizes: &[u8], entries: usize, target: &mut [u32
 /// # Errors
 ///
 /// The sheet's fault, then `TargetTooShort`; the target then stays as it was.
+#[tactic(auto, using(crate::proofs::Making::empty_make))]
 pub fn make(sheet: &[u32], target: &mut [u32]) -> Result<usize, Refusal>
     ensures returned { record { answer = answer_of result; target = target.new } ≡ make_call sheet.now target.old }
     ensures within { IfOk result (λ n. n ≤ length target.new) }

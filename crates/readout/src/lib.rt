@@ -28,6 +28,7 @@ fn metres_to(sheet: &[u32], variable: u32, value: u8, east: u32, north: u32) -> 
 ///
 /// The sheet's fault; then `BadReadout` for a variable that the sheet lacks, a position out of range, or bytes that are no
 /// assignment.
+#[tactic(auto, using(crate::proofs::Answers::sheet_refused))]
 pub fn readout(
     sheet: &[u32],
     plan: &[u8],

@@ -20,8 +20,9 @@ use Rattle.table.specs.declared.Shape.{Shape}
 use Rattle.table.specs.Layout.{capacity_in}
 use Rattle.table.specs.Meaning.{table_rows_in, variables_of, row_count, rows_from, table_sizes, table_rows, own_rows, domains, capacity_of}
 use Rattle.table.specs.Valid.{valid_table}
-use Rattle.table.specs.Check.{full_clause, shape_of}
+use Rattle.table.specs.Check.{full_clause, shape_of, check_table}
 use Rattle.table.proofs.Canonical.{passed}
+use Rattle.table.proofs.Tested.{table_valid}
 use Rattle.table.proofs.Reading.{ready, ready_shape, find_room}
 use Rattle.hunt.specs.declared.Next.{Next}
 use Rattle.hunt.proofs.Climbing.{nothing_none}
@@ -181,3 +182,32 @@ module _ (t : List ℕ) (v : valid_table t ≡ true) where
         let a = advance_made t pr answer t' e now q in
         let c = called (math.some (steps_to pr (resolve (domains t) pr (table_rows t)))) (next-step (domains t) (capacity_of t) (table_rows t) pr next ∙ ap math.some a.is) in
         ap₂ (λ x u. record { answer = StepAnswer.Stepped x; table = u }) p a.table ∙ sym c
+
+-- ---- the whole call behind its hunt, by what the test and the hunt found
+
+-- what is answered of a step on a pair: its word, or the refusal's number
+abbrev pub told : ℕ → Advanced → StepAnswer
+told w (Made now) = StepAnswer.Stepped w
+told w (Refused k) = StepAnswer.Refused k
+
+told_is : (t : List ℕ) (pr : Pair) → valid_table t ≡ true → next_pair (domains t) (table_rows t) ≡ math.some pr → (a : Advanced) → (advance_call t pr).answer ≡ a
+    → ◌≡◌ {A = StepReturned} (record { answer = told (pair_word pr) a; table = (advance_call t pr).table }) (step_call t)
+told_is t pr v next (Made now) q = called_made t v pr next (advance_call t pr).answer (advance_call t pr).table refl now (pair_word pr) q refl
+told_is t pr v next (Refused k) q = called_refused t v pr next (advance_call t pr).answer (advance_call t pr).table refl k q
+
+-- the shape that a table's test answers
+abbrev pub shape_in : List ℕ → Option Shape → Shape
+shape_in t (Some shape) = shape
+shape_in t None = shape_of t
+
+-- the step call leaves what the step on the pair that was found leaves, and answers what that does
+pub stepped_on : (t : List ℕ) (v i j : ℕ) → check_table t ≡ Some (shape_in t (check_table t))
+    → Hunts t ((shape_in t (check_table t)).variables + 2) (shape_in t (check_table t)).count (shape_in t (check_table t)).fulls 0 0 0 (Some (record { passed = v; first = i; second = j }))
+    → ((advance_call t (record { variable = v; first = i; second = j })).table ≡ (step_call t).table)
+    × (told (pair_word (record { variable = v; first = i; second = j })) (advance_call t (record { variable = v; first = i; second = j })).answer ≡ (step_call t).answer)
+stepped_on t v i j c h =
+    let shape : Shape = shape_in t (check_table t) in
+    let ok : (valid_table t ≡ true) × (shape ≡ shape_of t) = table_valid t (Some shape) (sym c) shape refl in
+    let is = told_is t (record { variable = v; first = i; second = j }) ok.0
+    (first_some t ok.0 shape ok.1 h (record { passed = v; first = i; second = j }) refl) (advance_call t (record { variable = v; first = i; second = j })).answer refl in
+    (ap (λ r. r.table) is, ap (λ r. r.answer) is)

@@ -46,6 +46,7 @@ struct Ending {
 /// # Errors
 ///
 /// `BadTable`; then, of the finished step, `WeightTooHigh` and `TableFull`. The table is left as it was.
+#[tactic(auto, using(crate::proofs::Single::stepped_on))]
 pub fn step(t: &mut [u32]) -> Result<Option<u32>, Refusal>
     ensures returned { record { answer = step_answer_of result; table = t.new } ≡ step_call t.old }
 {

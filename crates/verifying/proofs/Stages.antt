@@ -10,7 +10,6 @@ use Rattle.wcsp.specs.Clause.{InRange}
 use Rattle.wcsp.proofs.Lists.{along_length}
 use Rattle.words.specs.Layout.{value_in}
 use Rattle.fields.specs.Answers.{Answer}
-use Rattle.fields.specs.Limits.{max_variables}
 use Rattle.sheet.specs.Sheet.{sheet_fault, sheet_sizes}
 use Rattle.littleendian.specs.Words.{words_in, word_at}
 use Rattle.making.specs.Made.{made_words}
@@ -27,8 +26,8 @@ use Rattle.certificate.proofs.Claims.{Front, front_of}
 use Rattle.listing.specs.Plans.{HoldsPlan}
 use Rattle.listing.proofs.Plans.{range_holds}
 use Rattle.text.specs.Text.{refused_line}
-use Rattle.verifying.specs.Verified.{sheet_words, certificate_room, work_words, length_fault, checked_words, sheet_verdict, verdict_of, accepted_text, answer_text, verified_text, verified}
-use Rattle.verifying.proofs.Verdicts.{claim_missing, claim_stated, stopped_put, goes_put, refused_text, accepted_text_lem, checked_none, checked_claim}
+use Rattle.verifying.specs.Verified.{sheet_words, certificate_room, work_words, length_fault, checked_words, sheet_verdict, verdict_of, outcome_text, answer_text, verified_text, verified}
+use Rattle.verifying.proofs.Verdicts.{claim_missing, claim_stated, stopped_put, goes_put, refused_text, checked_none, checked_claim}
 
 -- ---- the claim
 
@@ -72,16 +71,11 @@ module _ (ws : List ℕ) (n cost : ℕ) (stated : Claim.Stated n cost ≡ claim_
           ap (λ c. c.answer) called ∙ rw (behind ws n, plan_is, f, e, checked_claim inst ws h)
 
       module _ (sheet text : List ℕ) where
-        pub accepted_put : (steps : ℕ) → answer ≡ record { number = 0; steps = steps } → text ≡ accepted_text sheet (take n plan) steps cost
-            → text ≡ answer_text sheet ws (checked_words inst ws)
-        accepted_put steps z p =
+        pub outcome_put : text ≡ outcome_text sheet (take n plan) cost answer → text ≡ answer_text sheet ws (checked_words inst ws)
+        unfolding outcome_text answer_text
+        outcome_put p =
             let e = (claim_stated ws n cost stated).2 in
-            let g : (checked_words inst ws).number ≡ 0 = ap (λ a. a.number) (sym answer_is ∙ z) in
-            let k : steps ≡ (checked_words inst ws).steps = ap (λ a. a.steps) (sym z ∙ answer_is) in
-            rw (accepted_text_lem sheet ws (checked_words inst ws) g, ← k, ← e, ← plan_is) p
-
-        pub failed_put : (k : ℕ) → answer.number ≡ k → (k ≡ 0 → ⊥) → text ≡ refused_line k → text ≡ answer_text sheet ws (checked_words inst ws)
-        failed_put k e m p = p ∙ sym (refused_text sheet ws (checked_words inst ws) k (ap (λ a. a.number) (sym answer_is) ∙ e) m)
+            rw (← answer_is, ← e, ← plan_is) p
 
       -- an accepted assignment holds a value of every variable
       pub accepted_holds : (sheet : List ℕ) → sheet_fault sheet ≡ 0 → inst ≡ made_words sheet → answer.number ≡ 0 → HoldsPlan sheet (take n plan)

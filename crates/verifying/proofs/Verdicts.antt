@@ -8,9 +8,7 @@ use lib.ListN.{length, replicate}
 use lib.Dec.{eqb, ltb}
 use borrow.Author.Tests.{eq-eqb, ne_eqb, eqb-true, eqb-false, le-leb, lt-ltb, le-ltb, ltb-false}
 use Rattle.fields.specs.Numbers.{number_of}
-use Rattle.fields.specs.declared.refusals.Fault.TheVariants.{BadHead, BadVariable, BadEntry, CostTooHigh, TooManyEntries}
 use Rattle.fields.specs.declared.refusals.Refusal.{Refusal}
-use Rattle.fields.specs.declared.refusals.Refusal.TheVariants.{Input, BadStep, BadClaim, BadReadout, BadTable, TargetTooShort, WeightTooHigh, TableFull, PairLeft, BadFixed, Forbidden, WeightTooWide}
 use Rattle.littleendian.specs.Words.{words_in}
 use Rattle.sheet.specs.Sheet.{sheet_fault}
 use Rattle.making.specs.Made.{made_words}
@@ -21,7 +19,7 @@ use Rattle.certificate.specs.declared.Claim.{Claim}
 use Rattle.certificate.specs.Certificate.{stated_variables, stated_plan, stated_cost, stated_derivation, has_claim}
 use Rattle.certificate.specs.Claim.{claim_of}
 use Rattle.text.specs.Text.{refused_line}
-use Rattle.verifying.specs.Verified.{sheet_words, certificate_room, work_words, length_fault, unless, checked_words, sheet_verdict, verdict_of, accepted_text, answer_text}
+use Rattle.verifying.specs.Verified.{sheet_words, certificate_room, work_words, length_fault, unless, checked_words, sheet_verdict, verdict_of, accepted_text, outcome_text, answer_text}
 
 -- ---- lengths
 
@@ -61,23 +59,11 @@ module _ (most odd : ℕ) (bytes : List ℕ) where
 -- ---- numbers
 
 -- a refusal has a number
+pub refused_more : (r : Refusal) → 1 ≤ number_of r
+refused_more r = grind arith
+
 pub refusal_counts : (r : Refusal) → number_of r ≡ 0 → ⊥
-refusal_counts (Input BadHead) z = omega (arith, z)
-refusal_counts (Input BadVariable) z = omega (arith, z)
-refusal_counts (Input BadEntry) z = omega (arith, z)
-refusal_counts (Input CostTooHigh) z = omega (arith, z)
-refusal_counts (Input TooManyEntries) z = omega (arith, z)
-refusal_counts BadStep z = omega (arith, z)
-refusal_counts BadClaim z = omega (arith, z)
-refusal_counts BadReadout z = omega (arith, z)
-refusal_counts BadTable z = omega (arith, z)
-refusal_counts TargetTooShort z = omega (arith, z)
-refusal_counts WeightTooHigh z = omega (arith, z)
-refusal_counts TableFull z = omega (arith, z)
-refusal_counts PairLeft z = omega (arith, z)
-refusal_counts BadFixed z = omega (arith, z)
-refusal_counts Forbidden z = omega (arith, z)
-refusal_counts WeightTooWide z = omega (arith, z)
+refusal_counts r z = omega (arith, refused_more r)
 
 pub goes_on : (k : ℕ) (a : CheckAnswer) → k ≡ 0 → unless k a ≡ a
 unfolding unless
@@ -93,6 +79,16 @@ unless-zero k a = go (eqb k 0) refl
     go false e z = absurd (eqb-false k 0 e z)
 
 -- ---- texts
+
+module _ (sheet plan : List ℕ) (cost : ℕ) (a : CheckAnswer) where
+  -- the text of a check that accepts, and of one that does not
+  pub passed_text : a.number ≡ 0 → outcome_text sheet plan cost a ≡ accepted_text sheet plan a.steps cost
+  unfolding outcome_text
+  passed_text z = rw (eq-eqb a.number 0 z)
+
+  pub failed_text : (a.number ≡ 0 → ⊥) → outcome_text sheet plan cost a ≡ refused_line a.number
+  unfolding outcome_text
+  failed_text n = rw (ne_eqb a.number 0 n)
 
 module _ (sheet ws : List ℕ) where
   pub refused_text : (a : CheckAnswer) (k : ℕ) → a.number ≡ k → (k ≡ 0 → ⊥) → answer_text sheet ws a ≡ refused_line k

@@ -59,6 +59,10 @@ verdict_of sheet certificate = unless (length_fault sheet_words 1 sheet) (sheet_
 abbrev pub accepted_text : List ℕ → List ℕ → ℕ → ℕ → List ℕ
 accepted_text sheet plan steps cost = accepted_head cost steps ++ assignment_lines sheet plan
 
+-- the text of a check's answer, for a sheet, a plan and its cost
+unfoldable pub outcome_text : List ℕ → List ℕ → ℕ → CheckAnswer → List ℕ
+outcome_text sheet plan cost a = cond (eqb a.number 0) (accepted_text sheet plan a.steps cost) (refused_line a.number)
+
 -- the text of an answer, for a sheet's and a certificate's words
 unfoldable pub answer_text : List ℕ → List ℕ → CheckAnswer → List ℕ
 answer_text sheet ws a = cond (eqb a.number 0) (accepted_text sheet (stated_plan ws) a.steps (stated_cost ws)) (refused_line a.number)

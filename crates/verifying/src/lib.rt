@@ -7,10 +7,12 @@ ghost use Rattle.littleendian.specs.Words.{words_in};
 ghost use Rattle.sheet.specs.Sheet.{sheet_fault};
 ghost use Rattle.making.specs.Made.{made_words};
 ghost use Rattle.listing.specs.Plans.{HoldsPlan};
+ghost use Rattle.checker.specs.Answer.{checked_as};
 ghost use Rattle.text.specs.Text.{refused_line};
-ghost use Rattle.verifying.specs.Verified.{certificate_room, length_fault, checked_words, sheet_verdict, accepted_text, answer_text, verified_text, verified};
+ghost use Rattle.verifying.specs.Verified.{certificate_room, length_fault, checked_words, sheet_verdict, accepted_text, outcome_text, answer_text, verified_text, verified};
 
 use certificate::Claim;
+use checker::Stopped;
 use fields::refusals::{Fault, Refusal};
 use text::{Head, Text};
 
@@ -41,9 +43,9 @@ fn check_length(bytes: &[u8], most: usize, odd: Refusal) -> Result<(), Refusal>
 fn refused_text(number: u32) -> Text
     ensures { result.items ≡ refused_line number }
 {
-    let mut text = Text::new();
-    text::put_refused(&mut text, number);
-    text
+    let mut out = [0u8; 1024];
+    let length = text::put_refused(&mut out, 0, number);
+    Text::front(out, length)
 }
 
 /// The text of an accepted claim.
@@ -51,10 +53,22 @@ fn accepted_text(sheet: &[u32], plan: &[u8], steps: usize, cost: u64) -> Text
     requires { HoldsPlan sheet.now plan.now }
     ensures { result.items ≡ accepted_text sheet.now plan.now steps cost }
 {
-    let mut text = Text::new();
-    text::put_head(&mut text, Head::Accepted, cost, steps);
-    listing::put_assignment(&mut text, sheet, plan);
-    text
+    let mut out = [0u8; 1024];
+    let head = text::put_head(&mut out, 0, Head::Accepted, cost, steps);
+    let length = listing::put_assignment(sheet, plan, &mut out, head);
+    Text::front(out, length)
+}
+
+/// The text of a claim's check: the claim with its steps, or the line of the refusal.
+#[tactic(auto, using(crate::proofs::Verdicts::passed_text, crate::proofs::Verdicts::failed_text, crate::proofs::Verdicts::refused_more))]
+fn outcome_text(sheet: &[u32], plan: &[u8], checked: Result<usize, Stopped>, cost: u64) -> Text
+    requires { ((checked_as checked).number ≡ 0) → HoldsPlan sheet.now plan.now }
+    ensures { result.items ≡ outcome_text sheet.now plan.now cost (checked_as checked) }
+{
+    match checked {
+        Ok(steps) => accepted_text(sheet, plan, steps, cost),
+        Err(stopped) => refused_text(stopped.refusal.number()),
+    }
 }
 
 /// The text of a certificate's words, checked against the instance made from the sheet.
@@ -68,16 +82,14 @@ fn checked_text(sheet: &[u32], instance: &[u32], certificate: &[u32]) -> Text
     let mut plan = [0u8; fields::MAX_VARIABLES];
     certificate::read_plan(certificate, &mut plan);
     let mut table = [0u32; WORK_WORDS];
-    match checker::check(
+    let checked = checker::check(
         instance,
         &certificate[n + 3..],
         &plan[..n],
         cost,
         &mut table,
-    ) {
-        Ok(steps) => accepted_text(sheet, &plan[..n], steps, cost),
-        Err(stopped) => refused_text(stopped.refusal.number()),
-    }
+    );
+    outcome_text(sheet, &plan[..n], checked, cost)
 }
 
 /// The text of a certificate's bytes, whose words are read into a local buffer.

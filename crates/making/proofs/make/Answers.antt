@@ -2,11 +2,8 @@
 use Rattle.std.proofs.Common.{◌≡◌, ◌∙◌, ap, refl, sym, Err, arith, rules}
 use Rattle.fields.specs.declared.refusals.Refusal.TheVariants.{Input}
 use Rattle.fields.specs.Answers.{answer_of}
-use Rattle.making.proofs.Making.{long_is, empty_make, refused_make, short_make, good_make}
+use Rattle.making.proofs.Making.{long_is, refused_make, short_make, good_make}
 use Rattle.making.proofs.make.Goals as goal
-
-pub returns-then-sheet-eq0-clause-returned : goal.returns-then-sheet-eq0-clause-returned
-returns-then-sheet-eq0-clause-returned c = empty_make c.args.sheet.now c.args.target.now _ c.if-sheet-eq0.true refl
 
 pub returns-in_err-read-clause-returned : goal.returns-in_err-read-clause-returned
 returns-in_err-read-clause-returned c =

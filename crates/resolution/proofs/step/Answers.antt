@@ -1,6 +1,6 @@
 -- `step` meets its contract: on a valid table the hunt from the first bucket gives the next pair, and the step on it is the call's.
 use native.Mathlib.Omega.{arith}
-use mathlib.Core.Path.{◌≡◌, ap}
+use mathlib.Core.Path.{◌≡◌}
 use mathlib.Core.Bool.{true}
 use mathlib.Core.Option.{some}
 use Rattle.wcsp.specs.Resolve.{next_pair}
@@ -8,9 +8,7 @@ use Rattle.table.specs.Meaning.{row_count, table_rows, domains}
 use Rattle.table.specs.Valid.{valid_table}
 use Rattle.table.specs.Check.{shape_of}
 use Rattle.table.proofs.Tested.{table_valid, table_invalid}
-use Rattle.std.proofs.lemmas.Result.{err_from_is_err_and}
-use Rattle.stepping.specs.Advance.{advanced_of}
-use Rattle.resolution.proofs.Single.{few_variables, first_asks, first_none, first_some, permitted, Numbers, numbers, called_invalid, called_done, called_refused, called_made}
+use Rattle.resolution.proofs.Single.{few_variables, first_asks, first_none, first_some, permitted, Numbers, numbers, called_invalid, called_done}
 use Rattle.resolution.proofs.step.Goals as goal
 use Rattle.resolution.proofs.step.Goals.{In-Some-found, In-Some}
 
@@ -63,12 +61,3 @@ pub step-requires : goal.step-requires
 step-requires c =
     let b = bounds (goal.at.step-requires c).In-Some-found in
     (omega (arith, b.known), omega (arith, b.ordered, b.second, b.most), omega (arith, b.second, b.most))
-
-pub returns-in_err-advance : goal.returns-in_err-advance
-returns-in_err-advance c =
-    let p = err_from_is_err_and c.from_residual.result c.from_residual.ensures.1 in
-    record { returned = rw (p.1, p.2) (called_refused _ (valid (goal.at.returns-in_err-advance c).In-Some).0 _ (next (goal.at.returns-in_err-advance c).In-Some-found) _ _ c.advance.ensures _ (ap advanced_of c.in_err-advance.was)) }
-
-pub returns : goal.returns
-returns c =
-    record { returned = called_made _ (valid (goal.at.returns c).In-Some).0 _ (next (goal.at.returns c).In-Some-found) _ _ c.advance.ensures _ _ (ap advanced_of c.in_ok-advance.was) c.step.ensures }

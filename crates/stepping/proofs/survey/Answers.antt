@@ -1,6 +1,6 @@
 -- `survey` meets its contract: the callees' answers are all that `Seen` asks, and the number is that of the finished step.
 use native.Mathlib.Omega.{arith}
-use mathlib.Core.Path.{◌≡◌, sym, ap, ◌∙◌}
+use mathlib.Core.Path.{◌≡◌}
 use Rattle.std.proofs.lemmas.Result.{err_from_is_err_and}
 use Rattle.fields.specs.Numbers.{refusal_in}
 use Rattle.wcsp.specs.Resolve.{resolve}
@@ -90,9 +90,10 @@ verdict a =
 pub returns-in_err-allow-clause-refused : goal.returns-in_err-allow-clause-refused
 returns-in_err-allow-clause-refused c =
     let p = err_from_is_err_and c.from_residual.result c.from_residual.ensures.1 in
-    rw (p.1, p.2) (refused c.args.t.now _ _ (sym (ap refusal_in c.in_err-allow.was) ∙ verdict (goal.at.returns-in_err-allow-clause-refused c).After-allow))
+    let is = verdict (goal.at.returns-in_err-allow-clause-refused c).After-allow in
+    rw (p.1, p.2) (refused c.args.t.now _ _ (grind (arith, is)))
 
 pub returns-clause-planned : goal.returns-clause-planned
 returns-clause-planned c =
-    planned (known (goal.at.returns-clause-planned c).After-allow)
-    (sym (ap refusal_in c.in_ok-allow.was) ∙ verdict (goal.at.returns-clause-planned c).After-allow)
+    let is = verdict (goal.at.returns-clause-planned c).After-allow in
+    planned (known (goal.at.returns-clause-planned c).After-allow) (grind (arith, is))

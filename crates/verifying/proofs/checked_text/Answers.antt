@@ -1,4 +1,4 @@
--- `checked_text` puts 7 where there is no claim, else the number of the check, or the text of the claim that it accepted.
+-- `checked_text` puts 7 where there is no claim, else the text of what the check of the claim comes to.
 use Prim.Native.Nat.{ℕ}
 use native.Mathlib.Omega.{arith}
 use mathlib.Core.Path.{◌≡◌, sym, ap, ◌∙◌}
@@ -6,11 +6,9 @@ use Rattle.text.specs.Text.{refused_line}
 use lib.Seq.{length-take-le}
 use Rattle.certificate.specs.declared.Claim.{Claim}
 use Rattle.certificate.specs.Claim.{claim_of}
-use Rattle.checker.specs.Answer.{CheckAnswer, checked_as}
-use Rattle.checker.proofs.Checking.{refused_some}
-use Rattle.verifying.proofs.Stages.{unclaimed_put, few, claim_long, plan_asks, accepted_put, failed_put, accepted_holds}
+use Rattle.verifying.proofs.Stages.{unclaimed_put, few, claim_long, plan_asks, outcome_put, accepted_holds}
 use Rattle.verifying.proofs.checked_text.Goals as goal
-use Rattle.verifying.proofs.checked_text.Goals.{After-check-arg-1, After-plan-1}
+use Rattle.verifying.proofs.checked_text.Goals.{After-plan-1}
 
 pub returns-in_default : goal.returns-in_default
 returns-in_default c =
@@ -42,26 +40,19 @@ pub slice_bounds-plan-end : goal.slice_bounds-plan-end
 slice_bounds-plan-end c = omega (arith, few _ _ _ (claimed (goal.at.slice_bounds-plan-end c).After-plan-1), c.read_plan.auto.plan)
 
 pub slice_bounds-check-end-2 : goal.slice_bounds-check-end-2
-slice_bounds-check-end-2 c = sym (length-take-le _ _ (slice_bounds-plan-end (goal.at.slice_bounds-check-end-2 c).After-check-arg-1))
+slice_bounds-check-end-2 c = omega (arith, length-take-le {A = ℕ}, few _ _ _ (claimed (goal.at.slice_bounds-check-end-2 c).After-plan-1), c.read_plan.auto.plan)
 
-pub slice_bounds-plan-end-in-Ok : goal.slice_bounds-plan-end-in-Ok
-slice_bounds-plan-end-in-Ok c = omega (arith, few _ _ _ (claimed (goal.at.slice_bounds-plan-end-in-Ok c).After-plan-1), c.read_plan.auto.plan)
+pub slice_bounds-plan-end-2 : goal.slice_bounds-plan-end-2
+slice_bounds-plan-end-2 c = omega (arith, few _ _ _ (claimed (goal.at.slice_bounds-plan-end-2 c).After-plan-1), c.read_plan.auto.plan)
 
-pub slice_bounds-accepted_text-end : goal.slice_bounds-accepted_text-end
-slice_bounds-accepted_text-end c = omega (arith, length-take-le {A = ℕ}, slice_bounds-plan-end (goal.at.slice_bounds-accepted_text-end c).After-check-arg-1)
+pub slice_bounds-outcome_text-end : goal.slice_bounds-outcome_text-end
+slice_bounds-outcome_text-end c = omega (arith, length-take-le {A = ℕ}, few _ _ _ (claimed (goal.at.slice_bounds-outcome_text-end c).After-plan-1), c.read_plan.auto.plan)
 
-pub accepted_text-requires : goal.accepted_text-requires
-accepted_text-requires c =
-    accepted_holds c.args.certificate.now _ _ (claimed (goal.at.accepted_text-requires c).After-plan-1) _ _ c.read_plan.ensures c.args.instance.now _ _ c.check.ensures.returned c.args.sheet.now c.requires.0 c.requires.1 (ap (λ (x : CheckAnswer). x.number) (ap checked_as c.in-Ok.is))
+pub outcome_text-requires : goal.outcome_text-requires
+outcome_text-requires c z =
+    accepted_holds c.args.certificate.now _ _ (claimed (goal.at.outcome_text-requires c).After-plan-1) _ _ c.read_plan.ensures c.args.instance.now _ _ c.check-checked.ensures.returned c.args.sheet.now c.requires.0 c.requires.1 z
 
-pub returns-in-Ok : goal.returns-in-Ok
-returns-in-Ok c =
+pub returns : goal.returns
+returns c =
     let a = c.args in
-    accepted_put a.certificate.now _ _ (claimed (goal.at.returns-in-Ok c).After-plan-1) _ _ c.read_plan.ensures a.instance.now _ _ c.check.ensures.returned a.sheet.now _
-    _ (ap checked_as c.in-Ok.is) c.accepted_text.ensures
-
-pub returns-in-Err : goal.returns-in-Err
-returns-in-Err c =
-    let a = c.args in
-    failed_put a.certificate.now _ _ (claimed (goal.at.returns-in-Err c).After-plan-1) _ _ c.read_plan.ensures a.instance.now _ _ c.check.ensures.returned a.sheet.now _
-    _ (ap (λ (x : CheckAnswer). x.number) (ap checked_as c.in-Err.is) ∙ sym c.number-in-Err.ensures) (λ z. refused_some _ (sym c.number-in-Err.ensures ∙ z)) c.refused_text-in-Err.ensures
+    outcome_put a.certificate.now _ _ (claimed (goal.at.returns c).After-plan-1) _ _ c.read_plan.ensures a.instance.now _ _ c.check-checked.ensures.returned a.sheet.now _ c.outcome_text.ensures

@@ -1,10 +1,7 @@
 -- `verdict_text` has the line of the refusal that ends it, or the text of the certificate's check against the instance made.
-use Prim.Native.Nat.{ℕ}
-use native.Mathlib.Omega.{arith}
 use mathlib.Core.Path.{refl, sym, ap, ◌∙◌}
 use mathlib.Core.List.{[]}
-use lib.ListN.{replicate, length-replicate}
-use lib.Seq.{length-take-le}
+use lib.ListN.{replicate}
 use Rattle.fields.specs.Numbers.{refusal_in}
 use Rattle.making.proofs.MakeTests.{MadeIn, refusal_some}
 use Rattle.verifying.proofs.Verdicts.{no_longer, refusal_counts}
