@@ -1,7 +1,7 @@
 // Reads for the programs: one read a call and never ahead of what is asked, so that the place in a file shows what was read; and what the programs do that read, work and write.
 #![tactic(auto)]
 
-ghost use Rattle.std.specs.Prelude.{◌≤◌, IfOk, length};
+ghost use Rattle.std.specs.Prelude.{◌≤◌, IfOk, IfErr, length};
 ghost use Rattle.std.specs.Io.{ReadsAtMost};
 ghost use Rattle.std.specs.Io.KnownBytes.{ReadConsumes};
 
@@ -21,22 +21,41 @@ pub fn read_some<R: Read>(input: &mut R, bytes: &mut [u8]) -> io::Result<usize>
     input.read(bytes)
 }
 
+/// A reading that failed before its end.
+#[derive(Clone, Copy)]
+pub struct Failed {
+    /// How many bytes had come.
+    pub length: usize,
+    /// Why no more came.
+    pub error: io::Error,
+}
+
 /// Reads until the bytes are full or the input has ended; how many came.
 ///
 /// # Errors
 ///
-/// Where a read fails, so that no cut input passes for a whole one.
-pub fn read_all<R: Read>(input: &mut R, bytes: &mut [u8]) -> io::Result<usize>
-    ensures { IfOk result (λ n. n ≤ length bytes.new) }
+/// Where a read fails, with how many bytes had come, so that no cut input passes for a whole one.
+pub fn read_all<R: Read>(input: &mut R, bytes: &mut [u8]) -> Result<usize, Failed>
+    ensures whole { IfOk result (λ n. n ≤ length bytes.new) }
+    ensures cut { IfErr result (λ f. f.length ≤ length bytes.new) }
 {
     let mut done = 0;
     // No `for`: a read brings as many bytes as it likes.
     while done < bytes.len() {
-        let more = read_some(input, &mut bytes[done..])?;
-        if more == 0 {
-            break;
+        match read_some(input, &mut bytes[done..]) {
+            Ok(more) => {
+                if more == 0 {
+                    break;
+                }
+                done += more;
+            }
+            Err(error) => {
+                return Err(Failed {
+                    length: done,
+                    error,
+                });
+            }
         }
-        done += more;
     }
     Ok(done)
 }

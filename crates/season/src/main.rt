@@ -1,7 +1,7 @@
 // Reads a season from standard input and writes the line of its figures to standard output. Every decision on the bytes is made by `batch`.
 #![tactic(auto)]
 
-ghost use Rattle.std.specs.Prelude.{◌*◌, ◌≤◌, ◌≡◌, IfOk, length};
+ghost use Rattle.std.specs.Prelude.{◌*◌, ◌≤◌, ◌≡◌, IfOk, IfErr, length};
 ghost use Rattle.cutting.specs.Cutting.{longest_sheet, wanted_in};
 ghost use Rattle.figures.specs.Counting.{most_sheets};
 ghost use Rattle.batch.specs.Theorems.{ReadAs, most_sheet_bytes};
@@ -9,6 +9,15 @@ ghost use Rattle.batch.specs.Theorems.{ReadAs, most_sheet_bytes};
 use batch::Season;
 use std::io;
 use std::io::{Print, Stdin};
+
+/// A season whose reading failed.
+#[derive(Clone, Copy)]
+struct Cut {
+    /// Where the bytes read led to.
+    season: Season,
+    /// Why no more came.
+    error: io::Error,
+}
 
 /// The most bytes that a season has: it is over then, and the reading has an end.
 fn most_bytes() -> u64
@@ -29,16 +38,20 @@ fn read_wanted(input: &mut Stdin, season: Season, piece: &mut [u8]) -> io::Resul
 }
 
 /// Reads and feeds what is read until the season is over or the input has ended. A piece has room for a byte, and the buffer for the longest sheet.
-fn read_season(mut input: Stdin, body: &mut [u8], piece: &mut [u8]) -> io::Result<Season>
+fn read_season(mut input: Stdin, body: &mut [u8], piece: &mut [u8]) -> Result<Season, Cut>
     requires { (4 * longest_sheet ≤ length body.old) × (1 ≤ length piece.old) × (length piece.old ≤ 4 * longest_sheet) }
-    ensures { IfOk result (ReadAs body.old) }
+    ensures whole { IfOk result (ReadAs body.old) }
+    ensures cut { IfErr result (λ c. ReadAs body.old c.season) }
 {
     let most = most_bytes();
     let mut season = Season::start();
     let mut done: u64 = 0;
     // No `for`: a read brings as many bytes as it likes.
     while done < most {
-        let length = read_wanted(&mut input, season, piece)?;
+        let length = match read_wanted(&mut input, season, piece) {
+            Ok(length) => length,
+            Err(error) => return Err(Cut { season, error }),
+        };
         if length == 0 {
             break;
         }
