@@ -4,7 +4,8 @@ use native.Mathlib.Omega.{arith}
 use mathlib.Core.Path.{◌≡◌, refl, sym, ◌∙◌}
 use mathlib.Core.Bool.{Bool, true, false, cond}
 use mathlib.Core.List.{List}
-use lib.ListN.{length, replicate}
+use lib.ListN.{length, take, replicate}
+use lib.Seq.{take_all}
 use lib.Dec.{eqb, ltb}
 use borrow.Author.Tests.{eq-eqb, ne_eqb, eqb-true, eqb-false, le-leb, lt-ltb, le-ltb, ltb-false}
 use Rattle.fields.specs.Numbers.{number_of}
@@ -79,6 +80,10 @@ unless-zero k a = go (eqb k 0) refl
     go false e z = absurd (eqb-false k 0 e z)
 
 -- ---- texts
+
+-- a plan's whole front is the plan
+pub whole_plan : (n : ℕ) (plan : List ℕ) → n ≡ length plan → take n plan ≡ plan
+whole_plan n plan e = take_all n plan (omega (arith, e))
 
 module _ (sheet plan : List ℕ) (cost : ℕ) (a : CheckAnswer) where
   -- the text of a check that accepts, and of one that does not

@@ -60,7 +60,7 @@ fn accepted_text(sheet: &[u32], plan: &[u8], steps: usize, cost: u64) -> Text
 }
 
 /// The text of a claim's check: the claim with its steps, or the line of the refusal.
-#[tactic(auto, using(crate::proofs::Verdicts::passed_text, crate::proofs::Verdicts::failed_text, crate::proofs::Verdicts::refused_more))]
+#[tactic(auto, using(crate::proofs::Verdicts::passed_text, crate::proofs::Verdicts::failed_text, crate::proofs::Verdicts::refused_more, crate::proofs::Verdicts::whole_plan))]
 fn outcome_text(sheet: &[u32], plan: &[u8], checked: Result<usize, Stopped>, cost: u64) -> Text
     requires { ((checked_as checked).number ≡ 0) → HoldsPlan sheet.now plan.now }
     ensures { result.items ≡ outcome_text sheet.now plan.now cost (checked_as checked) }
