@@ -6,10 +6,10 @@ use Rattle.fields.specs.Numbers.{fault_number}
 use Rattle.entries.specs.declared.Scan.{Scan}
 use Rattle.entries.specs.Entries.{Scanned, goes, stops}
 
--- what a result says of the scan: it goes on with the state, or stops at the number of the fault
-abbrev pub scanned_of : Result Scan Fault → Scanned
-scanned_of (Ok s) = goes s.from s.count
-scanned_of (Err f) = stops (fault_number f)
+-- what a result says of a scan and where it is behind a word: it goes on from there, or stops at the number of the fault
+abbrev pub scanned_at : {T : Type 0} → Scan → Result T Fault → Scanned
+scanned_at s (Ok _) = goes s.from s.count
+scanned_at s (Err f) = stops (fault_number f)
 
 -- where the words end: the number of entries, or a fault inside an entry
 abbrev pub scan_end : Scan → Result ℕ Fault

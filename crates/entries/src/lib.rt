@@ -21,14 +21,15 @@ pub struct Scan {
 }
 
 impl Scan {
-    ghost use Rattle.std.specs.Prelude.{◌≡◌};
+    ghost use Rattle.std.specs.Prelude.{◌≡◌, IfErr};
     ghost use Rattle.entries.specs.Entries.{scan_closing, scan_word};
-    ghost use Rattle.entries.specs.Scans.{scanned_of, scan_end};
+    ghost use Rattle.entries.specs.Scans.{scanned_at, scan_end};
 
-    /// Behind the next word, with the sizes of the variables.
+    /// Goes on behind the next word, with the sizes of the variables. A fault leaves the scan where it was.
     #[tactic(auto, using(crate::proofs::Scans::scan_word_said), unfolding(crate::specs::Entries::scan_binding, crate::specs::Entries::scan_cost, crate::specs::Entries::scan_forbidden))]
-    pub fn after(self, sizes: &[u8], word: u32) -> Result<Scan, Fault>
-        ensures { scanned_of result ≡ scan_word sizes.now self.from self.count word }
+    pub fn read(&mut self, sizes: &[u8], word: u32) -> Result<(), Fault>
+        ensures scanned { scanned_at self.new result ≡ scan_word sizes.now self.old.from self.old.count word }
+        ensures kept { IfErr result (λ _. self.new ≡ self.old) }
     {
         match Word::from(word) {
             Word::Binding(variable, value) => {
@@ -36,31 +37,29 @@ impl Scan {
                 if variable < self.from || u32::from(size) <= value {
                     return Err(Fault::BadEntry);
                 }
-                Ok(Scan {
-                    from: variable + 1,
-                    count: self.count,
-                })
+                self.from = variable + 1;
+                Ok(())
             }
             Word::Cost(cost) if MAX_COST < cost => Err(Fault::CostTooHigh),
-            Word::Cost(_) => self.closed(),
-            Word::Forbidden(0) => self.closed(),
+            Word::Cost(_) => self.close(),
+            Word::Forbidden(0) => self.close(),
             Word::Forbidden(_) => Err(Fault::BadEntry),
             _ => Err(Fault::BadEntry),
         }
     }
 
-    /// Behind a good word that closes an entry.
+    /// Goes on behind a good word that closes an entry.
     #[tactic(auto, unfolding(crate::specs::Entries::scan_closing))]
-    fn closed(self) -> Result<Scan, Fault>
-        ensures { scanned_of result ≡ scan_closing self.count }
+    fn close(&mut self) -> Result<(), Fault>
+        ensures scanned { scanned_at self.new result ≡ scan_closing self.old.count }
+        ensures kept { IfErr result (λ _. self.new ≡ self.old) }
     {
         if MAX_ENTRIES <= self.count {
             return Err(Fault::TooManyEntries);
         }
-        Ok(Scan {
-            from: 0,
-            count: self.count + 1,
-        })
+        self.from = 0;
+        self.count += 1;
+        Ok(())
     }
 
     /// The number of entries where the words end. An open entry is a fault.
@@ -75,6 +74,8 @@ impl Scan {
 }
 
 /// The number of entries in the words that are left, those before counted, or the fault nearest the front.
+// the loop over an instance's words: put into its callers it gets long jumps, and takes up to a half more time
+#[inline(never)]
 pub fn scan_entries(reader: Reader, sizes: &[u8], before: u32) -> Result<u32, Fault>
     ensures fault { fault_in result ≡ entries_fault sizes.now 0 before (words_left reader.entry) }
     ensures number { IfOk result (λ k. k ≡ before + length (entries_from [] (words_left reader.entry))) }
@@ -84,7 +85,8 @@ pub fn scan_entries(reader: Reader, sizes: &[u8], before: u32) -> Result<u32, Fa
         count: before,
     };
     for word in reader {
-        state = state.after(sizes, word)?;
+        // in place: a state that is returned is put together and taken apart at each word
+        state.read(sizes, word)?;
     }
     state.end()
 }

@@ -1,4 +1,4 @@
--- The words that a reader has still to read.
+-- Inner: the words that a reader has still to read.
 use Rattle.std.specs.Prelude.{ℕ, ◌+◌, ◌≡◌, List, drop, Option, MatchOption}
 use Rattle.std.specs.Iterator.{YieldsFirst}
 use Rattle.reader.specs.declared.Reader.{Reader}

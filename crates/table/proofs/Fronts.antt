@@ -3,13 +3,15 @@ use Prim.Native.Nat.{ℕ, suc, ◌+◌, ◌-◌, ◌<◌, ◌≤◌}
 use native.Mathlib.Omega.{arith}
 use native.Mathlib.Numerals.{add-one}
 use mathlib.Core.Path.{◌≡◌, refl, sym, ap, ap₂, ◌∙◌}
-use mathlib.Core.Bool.{true, false, not, ◌&&◌}
+use mathlib.Core.Bool.{Bool, true, false, not, ◌&&◌}
 use mathlib.Core.List.{List, [], ◌∷◌, ◌++◌, map, append_assoc, map-append}
-use lib.ListN.{length, get_or, take, drop, set, replicate, length-append, length-map, drop_of_length-le}
-use lib.Seq.{drop-cons, get_or-drop, take-suc, set_at, length-take-le}
+use lib.ListN.{length, get_or, take, drop, set, replicate, length-append, length-map}
+use lib.Seq.{drop-cons, get_or-drop, take-suc, set_at, length-take-le, take-length}
+use Rattle.std.proofs.lemmas.List.{length-drop}
 use lib.Dec.{eqb}
 use borrow.Author.Tests.{eq-eqb, ne_eqb}
-use Rattle.std.specs.Prelude.{Some, None}
+use Rattle.std.specs.Prelude.{Some, None, ◌==◌}
+use Rattle.std.specs.List.{list_all}
 use Rattle.wcsp.specs.Sign.{full}
 use Rattle.words.specs.Layout.{payload_of}
 use Rattle.clause.specs.declared.Clause.{Clause}
@@ -24,20 +26,17 @@ use Rattle.table.specs.TwelveSigns.{clause_from_signs}
 
 -- ---- zeros
 
-module _ (t : List ℕ) (at i : ℕ) (inv : all_zero (drop at t) ≡ all_zero (drop i t)) where
-  zero_here : i < length t → all_zero (drop at t) ≡ (eqb (get_or t i 0) 0 && all_zero (drop (suc i) t))
-  unfolding all_zero
-  zero_here h = inv ∙ rw (drop-cons t i 0 h)
+zeros_all : (ws : List ℕ) → list_all (λ w. w == 0) ws ≡ all_zero ws
+unfolding all_zero
+zeros_all [] = refl
+zeros_all (w ∷ ws) = ap (λ b. eqb w 0 && b) (zeros_all ws)
 
-  pub zero-not : i < length t → (get_or t i 0 ≡ 0 → ⊥) → false ≡ all_zero (drop at t)
-  zero-not h n = sym (zero_here h ∙ rw (ne_eqb (get_or t i 0) 0 n))
-
-  pub zero-next : i < length t → get_or t i 0 ≡ 0 → all_zero (drop at t) ≡ all_zero (drop (i + 1) t)
-  zero-next h e = let q : i + 1 ≡ suc i = omega arith in zero_here h ∙ rw (eq-eqb (get_or t i 0) 0 e, q)
-
-  pub zero_end : length t ≤ i → true ≡ all_zero (drop at t)
-  unfolding all_zero
-  zero_end h = sym (inv ∙ rw (drop_of_length-le t h))
+-- what is told of the words from a place up to the end of the slice
+pub zeros_told : (told : Bool) (t : List ℕ) (at end : ℕ)
+    → told ≡ list_all (λ w. w == 0) (take (end - at) (drop at t)) → end ≡ length t → told ≡ all_zero (drop at t)
+zeros_told told t at end e h =
+    let whole : take (end - at) (drop at t) ≡ drop at t = rw (h, ← length-drop at t) (take-length (drop at t)) in
+    e ∙ ap (list_all (λ w. w == 0)) whole ∙ zeros_all (drop at t)
 
 -- ---- the sizes of twelve variables, one more given
 

@@ -1,7 +1,8 @@
 // Tables that a caller hands in: valid or not, the shape of a valid one, and its empty row's weight.
 #![tactic(auto)]
 
-ghost use Rattle.std.specs.Prelude.{◌≡◌, true, ◌&&◌, List, ◌++◌, ℕ, ◌+◌, ◌-◌, ◌*◌, ◌/◌, ◌<◌, ◌≤◌, min, length, take, drop, replicate, Some, None};
+ghost use Rattle.std.specs.Prelude.{◌≡◌, true, ◌&&◌, List, ◌++◌, ℕ, ◌+◌, ◌-◌, ◌*◌, ◌/◌, ◌<◌, ◌≤◌, min, length, take, drop, replicate, Some, None, ◌==◌};
+ghost use Rattle.std.specs.List.{list_all};
 ghost use Rattle.wcsp.specs.Sign.{full};
 ghost use Rattle.wcsp.specs.Row.{empty_weight};
 ghost use Rattle.words.specs.Layout.{unpacked};
@@ -166,19 +167,20 @@ fn rows_valid<F: RowForm>(t: &[u32], base: usize, count: usize, fulls: Clause) -
     true
 }
 
+/// Every word is 0.
+fn all_zero(words: &[u32]) -> bool
+    ensures { result ≡ list_all (λ w. w == 0) words.now }
+{
+    words.iter().all(|word| *word == 0)
+}
+
 /// Every word from this place on is 0.
+#[tactic(auto, using(crate::proofs::Fronts::zeros_told))]
 pub fn all_zero_from(t: &[u32], at: usize) -> bool
     requires { at ≤ length t.now }
     ensures { result ≡ all_zero (drop at t.now) }
 {
-    let mut i = at;
-    while i < t.len() {
-        if t[i] != 0 {
-            return false;
-        }
-        i += 1;
-    }
-    true
+    all_zero(&t[at..])
 }
 
 /// Zeros from an index to the end of the slice.

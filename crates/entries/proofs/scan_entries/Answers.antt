@@ -11,14 +11,14 @@ use Rattle.entries.proofs.scan_entries.Goals as goal
 pub loop-word-preserved : goal.loop-word-preserved
 loop-word-preserved c =
     let i = rw c.in-Some.ensures.steps.0 at c.loop-word.invariant in
-    let step = c.in_ok-state.ensures in
+    let step = c.in_ok-read.ensures.scanned in
     (tt, tt, sym (fault_behind _ _ _ _ (words_left c.next.new.self) _ _ step) ∙ i.2, omega (arith, count_goes _ _ _ _ _ (words_left c.next.new.self) _ step, i.3))
 
-pub returns-in_err-state-clause-fault : goal.returns-in_err-state-clause-fault
-returns-in_err-state-clause-fault c =
+pub returns-in_err-read-clause-fault : goal.returns-in_err-read-clause-fault
+returns-in_err-read-clause-fault c =
     let i = rw c.in-Some.ensures.steps.0 at c.loop-word.invariant in
-    let e : fault_number c.in_err-state.field-0.0 ≡ entries_fault c.args.sizes.now 0 c.args.before (words_left c.args.reader) =
-    sym (fault_there _ _ _ _ (words_left c.next.new.self) _ c.in_err-state.ensures) ∙ i.2 ∙ ap (λ r. entries_fault c.args.sizes.now 0 c.args.before (words_left r)) c.into_iter-word-iterator.ensures.into_iter_gives in
+    let e : fault_number c.in_err-read.field-0.0 ≡ entries_fault c.args.sizes.now 0 c.args.before (words_left c.args.reader) =
+    sym (fault_there _ _ _ _ (words_left c.next.new.self) _ c.in_err-read.ensures.scanned) ∙ i.2 ∙ ap (λ r. entries_fault c.args.sizes.now 0 c.args.before (words_left r)) c.into_iter-word-iterator.ensures.into_iter_gives in
     search (rules, e)
 
 pub returns-clause-fault : goal.returns-clause-fault
