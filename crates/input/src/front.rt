@@ -4,7 +4,7 @@ ghost use Rattle.words.specs.Layout.{payload_of};
 ghost use Rattle.fields.specs.Limits.{max_variables, max_values};
 ghost use Rattle.fields.specs.Front.{good_sizes};
 ghost use Rattle.fields.specs.Numbers.{fault_number, fault_in};
-ghost use Rattle.reader.specs.Left.{words_left};
+ghost use Rattle.reader.specs.Left.{words_left, Within};
 ghost use Rattle.entries.specs.Entries.{entries_fault};
 ghost use Rattle.input.specs.Instance.{stations_fault};
 ghost use Rattle.input.specs.Heads.{head_read, size_read};
@@ -15,10 +15,11 @@ use reader::Reader;
 use words::Word;
 
 /// The number of variables that the next word gives as a head, 0 where there are no words at all.
-#[tactic(auto, using(crate::proofs::Heads::head_said))]
+#[tactic(auto, using(crate::proofs::Heads::head_said, reader::proofs::Within::next_within))]
 pub fn read_head(reader: &mut Reader) -> Result<u32, Fault>
     ensures head { result ≡ head_read (words_left reader.old) }
     ensures left { words_left reader.new ≡ drop 1 (words_left reader.old) }
+    ensures within { Within reader.old → Within reader.new }
 {
     let Some(word) = reader.next() else {
         return Ok(0);
@@ -33,11 +34,12 @@ pub fn read_head(reader: &mut Reader) -> Result<u32, Fault>
 }
 
 /// The size of a variable that the next word gives.
-#[tactic(auto, using(crate::proofs::Heads::size_said))]
+#[tactic(auto, using(crate::proofs::Heads::size_said, reader::proofs::Within::next_within))]
 pub fn read_size(reader: &mut Reader) -> Result<u32, Fault>
     ensures size { result ≡ size_read (words_left reader.old) }
     ensures small { IfOk result (λ d. d ≤ max_values) }
     ensures left { words_left reader.new ≡ drop 1 (words_left reader.old) }
+    ensures within { Within reader.old → Within reader.new }
 {
     let Some(word) = reader.next() else {
         return Err(Fault::BadVariable);
@@ -60,6 +62,7 @@ pub fn read_sizes(reader: &mut Reader, n: usize) -> Result<Sizes, Fault>
     ensures good { IfOk result (λ s. stations_fault n [] (words_left reader.old) ≡ entries_fault s.items 0 0 (words_left reader.new)) }
     ensures sizes { IfOk result (λ s. s.items ≡ map payload_of (take n (words_left reader.old))) }
     ensures left { IfOk result (λ s. words_left reader.new ≡ drop n (words_left reader.old)) }
+    ensures within { Within reader.old → Within reader.new }
 {
     let mut sizes = Sizes::new();
     for _ in 0..n {

@@ -3,7 +3,7 @@
 
 ghost use Rattle.std.specs.Prelude.{◌≡◌, length};
 ghost use Rattle.std.specs.Iterator.{item_count};
-ghost use Rattle.reader.specs.Left.{words_left, GivesWord};
+ghost use Rattle.reader.specs.Left.{words_left, Within, GivesWord};
 
 /// The caller's words and how far they are read: an iterator over those that are left, which is handed on by `&mut` from one
 /// part of a reading to the next.
@@ -16,7 +16,8 @@ pub struct Reader<'a> {
 impl<'a> Reader<'a> {
     /// A reader of which all words are left.
     pub fn over(words: &'a [u32]) -> Reader<'a>
-        ensures { words_left result ≡ words.now }
+        ensures left { words_left result ≡ words.now }
+        ensures within { Within result }
     {
         Reader { words, at: 0 }
     }

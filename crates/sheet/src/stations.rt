@@ -2,7 +2,7 @@
 ghost use Rattle.std.specs.Prelude.{◌≡◌, ◌+◌, ◌*◌, ◌≤◌, cond, map, length, drop, IfOk, OnOk};
 ghost use Rattle.fields.specs.Limits.{max_variables};
 ghost use Rattle.fields.specs.Numbers.{fault_in};
-ghost use Rattle.reader.specs.Left.{words_left};
+ghost use Rattle.reader.specs.Left.{words_left, Within};
 ghost use Rattle.sheet.specs.Sheet.{leg_count, stations_from, behind_stations};
 ghost use Rattle.sheet.specs.Phases.{good_stations, coordinate_next, station_next};
 
@@ -17,9 +17,11 @@ use reader::Reader;
 /// # Errors
 ///
 /// `BadVariable` where the next word is no such coordinate within the range, or there is none.
+#[tactic(auto, using(reader::proofs::Within::next_within))]
 fn read_coordinate(reader: &mut Reader, kind: u32) -> Result<u32, Fault>
     ensures coordinate { result ≡ coordinate_next kind (words_left reader.old) }
     ensures left { words_left reader.new ≡ drop 1 (words_left reader.old) }
+    ensures within { Within reader.old → Within reader.new }
 {
     let Some(word) = reader.next() else {
         return Err(Fault::BadVariable);
@@ -38,6 +40,7 @@ fn read_coordinate(reader: &mut Reader, kind: u32) -> Result<u32, Fault>
 fn read_station(reader: &mut Reader) -> Result<u32, Fault>
     ensures size { result ≡ station_next (words_left reader.old) }
     ensures left { IfOk result (λ d. words_left reader.new ≡ drop (1 + 2 * d) (words_left reader.old)) }
+    ensures within { Within reader.old → Within reader.new }
 {
     let size = read_size(reader)?;
     for _ in 0..size {
@@ -58,6 +61,7 @@ pub fn read_stations(reader: &mut Reader, n: usize) -> Result<Sizes, Fault>
     ensures fault { fault_in result ≡ cond (good_stations n (words_left reader.old)) 0 2 }
     ensures sizes { IfOk result (λ v. v.items ≡ map length (stations_from n (words_left reader.old))) }
     ensures left { OnOk result (words_left reader.new ≡ behind_stations n (words_left reader.old)) }
+    ensures within { Within reader.old → Within reader.new }
 {
     let mut sizes = Sizes::new();
     for _ in 0..n {

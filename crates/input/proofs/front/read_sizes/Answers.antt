@@ -15,4 +15,5 @@ loop-preserved c =
       rw (c.push.ensures.items, left) (sym step.0 ∙ c.loop.invariant.2),
       rw (c.push.ensures.items, left) (sym step.1 ∙ c.loop.invariant.3),
       rw left (sym (good_step c.args.n c.loop.counter _ (words_left c.loop.reader) c.loop-test.true (sym c.in_ok-read_size.ensures.size)) ∙ c.loop.invariant.4),
+      λ within. c.in_ok-read_size.ensures.within (c.loop.invariant.5 within),
     )

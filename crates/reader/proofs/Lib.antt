@@ -1,0 +1,2 @@
+-- How far a reader comes.
+pub mod Within
