@@ -160,7 +160,7 @@ module _ (t : List ℕ) (valid : valid_table t ≡ true) {shape : Shape} (e : sh
               answer (domains t) (full_signs t valid e) (premise_valid (ready t valid e) i h x f) (premise_valid (ready t valid e) j inside y g)
               ∙ ap₂ (permitted (domains t) v) (premise_signs (ready t valid e) i h x f) (premise_signs (ready t valid e) j inside y g)
 
-          names_forbidden : b ≡ false → Names t w None
+          pub names_forbidden : b ≡ false → Names t w None
           names_forbidden h =
               names_none t w (forbidden (domains t) (table_rows t) w v i j is_step known_here ordered in_table (sym tested ∙ h))
 
