@@ -1,2 +1,2 @@
--- How far a reader comes.
+-- How far a call moves a reader on.
 pub mod Within

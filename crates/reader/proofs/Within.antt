@@ -1,10 +1,10 @@
--- A reader over words is never past their end: it starts at the first of them, and a call moves it on only where a word was left.
+-- A call of `next` leaves a reader within its words where it was within them: it moves on only where a word was left.
 use Rattle.std.proofs.Common.{arith, ap, sym, ◌∙◌, length-drop}
 use Rattle.std.specs.Prelude.{ℕ, Option, Some, None, length}
 use Rattle.reader.specs.declared.Reader.{Reader}
 use Rattle.reader.specs.Left.{Within, GivesWord}
 
--- a call leaves it within its words
+-- it stays within its words
 pub next_within : (old : Reader) (word : Option ℕ) (new : Reader) → GivesWord old word new → Within old → Within new
 next_within old None new gives within = omega (arith, ap (λ r. r.at) gives.1, ap (λ r. length r.words.now) gives.1)
 next_within old (Some w) new gives within =

@@ -1,4 +1,4 @@
--- Inner: the words that a reader has still to read, and that it comes no further than their end.
+-- Inner: the words that a reader has still to read, and when it is no further than their end.
 use Rattle.std.specs.Prelude.{ℕ, ◌+◌, ◌≤◌, ◌≡◌, List, length, drop, Option, MatchOption}
 use Rattle.std.specs.Iterator.{YieldsFirst}
 use Rattle.reader.specs.declared.Reader.{Reader}
